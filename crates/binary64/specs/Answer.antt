@@ -1,0 +1,17 @@
+-- What an entry answers. Document 01: "A refusal returns its number and no other data." Definitions only.
+use Prim.Native.Nat.{ℕ}
+use mathlib.Core.Path.{_≡_}
+
+-- the values, or a refusal's number
+pub data Answer (A : Type 0) : Type 0 where
+  answered : A → Answer A
+  refused : ℕ → Answer A
+
+-- go on with the values; a refusal stays
+abbrev pub andThen : {A B : Type 0} → Answer A → (A → Answer B) → Answer B
+andThen (answered a) f = f a
+andThen (refused n) f = refused n
+
+-- f tells any two values apart: what is said of f x leaves one possible x
+abbrev pub LosesNothing : {A B : Type 0} → (A → B) → Type 0
+LosesNothing {A = A} f = (x y : A) → f x ≡ f y → x ≡ y

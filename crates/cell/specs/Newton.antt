@@ -1,0 +1,46 @@
+-- Newton's search for the place whose image is the origin, for any cell. Definitions only.
+use Prim.Native.Nat.{ℕ, zero, suc}
+use mathlib.Core.Bool.{Bool, cond}
+use mathlib.Core.List.{List, [], _∷_}
+use lib.Ieee.{Float}
+use Rattle.numbers.specs.Rule.{tabulate}
+use Rattle.binary64.specs.Binary64.{_⊖_, _!_}
+use Rattle.binary64.specs.Answer.{Answer, answered, refused, andThen}
+use Rattle.mat3_col_major.specs.Mat3.{transposed, product, inverse}
+use Rattle.cell.specs.declared.Point.{Point}
+use Rattle.cell.specs.declared.Step.{Step}
+use Rattle.cell.specs.declared.Step.the-variants.{Next, Stuck}
+use Rattle.cell.specs.declared.Located.{Located}
+use Rattle.cell.specs.declared.Located.the-variants.{Inside, Flat, Outside}
+
+abbrev pub coords : Point → List Float
+coords q = q .x ∷ q .y ∷ q .z ∷ []
+
+-- q less d, on each axis
+abbrev pub lessBy : List Float → List Float → List Float
+lessBy q d = tabulate 3 (λ (i : ℕ). q ! i ⊖ d ! i)
+
+-- one step from the place q: the inverse of the Jacobian, which is handed over column by column, times the image is taken off
+unfoldable pub stepFrom : List Float → List Float → List Float → Answer (List Float)
+stepFrom q image jacobian =
+    andThen (inverse (transposed jacobian)) (λ (m : List Float). answered (lessBy q (product m image)))
+
+-- n steps; where a step is refused, so is what follows
+unfoldable pub after : (List Float → Answer (List Float)) → List Float → ℕ → Answer (List Float)
+after step start zero = answered start
+after step start (suc n) = andThen (after step start n) step
+
+-- "takes exactly 20 steps unless a determinant is zero", then the inside test: 1 is a zero determinant, 2 that the test fails
+abbrev pub locate : (List Float → Answer (List Float)) → List Float → (List Float → Bool) → Answer (List Float)
+locate step start inside = andThen (after step start 20) (λ (q : List Float). cond (inside q) (answered q) (refused 2))
+
+-- the number and the values of each case of a step
+abbrev pub stepTold : Step → Answer (List Float)
+stepTold (Next q) = answered (coords q)
+stepTold Stuck = refused 1
+
+-- the number and the values of each case: "inside with three coordinates, flat, or outside"
+abbrev pub told : Located → Answer (List Float)
+told (Inside r s t) = answered (r ∷ s ∷ t ∷ [])
+told Flat = refused 1
+told Outside = refused 2
