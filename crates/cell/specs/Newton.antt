@@ -5,7 +5,7 @@ use mathlib.Core.List.{List, [], _∷_}
 use lib.Ieee.{Float}
 use Rattle.numbers.specs.Rule.{tabulate}
 use Rattle.binary64.specs.Binary64.{_⊖_, _!_}
-use Rattle.binary64.specs.Answer.{Answer, answered, refused, andThen}
+use Rattle.binary64.specs.Answer.{Answer, answered, refused, andThen, LosesNothing}
 use Rattle.mat3_col_major.specs.Mat3.{transposed, product, inverse}
 use Rattle.cell.specs.declared.Point.{Point}
 use Rattle.cell.specs.declared.Step.{Step}
@@ -30,9 +30,13 @@ unfoldable pub after : (List Float → Answer (List Float)) → List Float → �
 after step start zero = answered start
 after step start (suc n) = andThen (after step start n) step
 
--- "takes exactly 20 steps unless a determinant is zero", then the inside test: 1 is a zero determinant, 2 that the test fails
+-- the place q, or 2 where the inside test fails
+abbrev pub verdict : (List Float → Bool) → List Float → Answer (List Float)
+verdict inside q = cond (inside q) (answered q) (refused 2)
+
+-- "takes exactly 20 steps unless a determinant is zero", which is refusal 1, and then the inside test
 abbrev pub locate : (List Float → Answer (List Float)) → List Float → (List Float → Bool) → Answer (List Float)
-locate step start inside = andThen (after step start 20) (λ (q : List Float). cond (inside q) (answered q) (refused 2))
+locate step start inside = andThen (after step start 20) (verdict inside)
 
 -- the number and the values of each case of a step
 abbrev pub stepTold : Step → Answer (List Float)
@@ -44,3 +48,10 @@ abbrev pub told : Located → Answer (List Float)
 told (Inside r s t) = answered (r ∷ s ∷ t ∷ [])
 told Flat = refused 1
 told Outside = refused 2
+
+-- So the contracts leave one possible answer.
+abbrev pub ToldLosesNothing : Type 0
+ToldLosesNothing = LosesNothing told
+
+abbrev pub StepToldLosesNothing : Type 0
+StepToldLosesNothing = LosesNothing stepTold

@@ -5,7 +5,7 @@ use mathlib.Core.List.{List, [], _∷_}
 use lib.Ieee.{Float}
 use Rattle.numbers.specs.Rule.{tabulate, grid}
 use Rattle.binary64.specs.Binary64.{_⊕_, _⊖_, _⊗_, _⊘_, _!_, f1, isZero}
-use Rattle.binary64.specs.Answer.{Answer, answered, refused}
+use Rattle.binary64.specs.Answer.{Answer, answered, refused, LosesNothing}
 use Rattle.mat3_col_major.specs.declared.Inverse.{Inverse}
 use Rattle.mat3_col_major.specs.declared.Inverse.the-variants.{Of, ZeroDeterminant}
 
@@ -56,3 +56,7 @@ inverse m = cond (isZero (det m)) (refused 1) (answered (scaledCofactors (f1 ⊘
 abbrev pub told : Inverse → Answer (List Float)
 told (Of a b c d e f g h i) = answered (a ∷ b ∷ c ∷ d ∷ e ∷ f ∷ g ∷ h ∷ i ∷ [])
 told ZeroDeterminant = refused 1
+
+-- So the contract leaves one possible answer.
+abbrev pub ToldLosesNothing : Type 0
+ToldLosesNothing = LosesNothing told

@@ -1,0 +1,59 @@
+-- What n Newton steps give: one step more, and that a refusal stays; and that what is told of an answer leaves one answer. Assumes nothing.
+use Prim.Native.Nat.{ℕ, zero, suc, _+_, _-_, _<_}
+use native.Mathlib.Nat.{zero-add, suc-add}
+use native.Mathlib.Numerals.{add-one}
+use native.Mathlib.Omega.{arith}
+use mathlib.Core.Path.{_≡_, refl, sym, _∙_, ap, subst}
+use mathlib.Core.Bool.{Bool}
+use mathlib.Core.List.{List}
+use lib.Ieee.{Float}
+use Rattle.binary64.specs.Answer.{Answer, answered, refused, andThen}
+use Rattle.cell.specs.Newton.{after, verdict, locate, told, stepTold, ToldLosesNothing, StepToldLosesNothing}
+use Rattle.cell.specs.declared.Point.{Point}
+use Rattle.cell.specs.declared.Located.the-variants.{Inside, Flat, Outside}
+use Rattle.cell.specs.declared.Step.the-variants.{Next, Stuck}
+
+module _ (step : List Float → Answer (List Float)) (start : List Float) where
+  pub one-more : (i : ℕ) (q : List Float) (a : Answer (List Float)) → after step start i ≡ answered q → a ≡ step q → after step start (i + 1) ≡ a
+  unfolding after
+  one-more i q a h e = ap (after step start) (add-one i) ∙ ap (λ (b : Answer (List Float)). andThen b step) h ∙ sym e
+
+  pub stays : (n d r : ℕ) → after step start n ≡ refused r → after step start (d + n) ≡ refused r
+  unfolding after
+  stays n zero r h = ap (after step start) (zero-add n) ∙ h
+  stays n (suc d) r h = ap (after step start) (suc-add d n) ∙ ap (λ (b : Answer (List Float)). andThen b step) (stays n d r h)
+
+  -- a step that is refused before the twentieth is the answer
+  pub refused-early : (inside : List Float → Bool) (i r : ℕ) (q : List Float) → i < 20 → after step start i ≡ answered q → refused r ≡ step q → refused r ≡ locate step start inside
+  refused-early inside i r q below h e =
+      let whole : 19 - i + (i + 1) ≡ 20 = omega arith in
+      let last : after step start 20 ≡ refused r = subst (λ (n : ℕ). after step start n ≡ refused r) whole (stays (i + 1) (19 - i) r (one-more i q (refused r) h e)) in
+      sym (ap (λ (a : Answer (List Float)). andThen a (verdict inside)) last)
+
+  -- after the twentieth the inside test decides
+  pub after-twenty : (inside : List Float → Bool) (i : ℕ) (q : List Float) → i ≡ 20 → after step start i ≡ answered q → verdict inside q ≡ locate step start inside
+  after-twenty inside i q done h =
+      sym (ap (λ (a : Answer (List Float)). andThen a (verdict inside)) (ap (after step start) (sym done) ∙ h))
+
+pub told-loses-nothing : ToldLosesNothing
+told-loses-nothing (Inside a b c) (Inside d e f) h = cc
+told-loses-nothing (Inside a b c) Flat h = cc
+told-loses-nothing (Inside a b c) Outside h = cc
+told-loses-nothing Flat (Inside d e f) h = cc
+told-loses-nothing Flat Flat h = refl
+told-loses-nothing Flat Outside h = cc
+told-loses-nothing Outside (Inside d e f) h = cc
+told-loses-nothing Outside Flat h = cc
+told-loses-nothing Outside Outside h = refl
+
+abbrev point : Float → Float → Float → Point
+point a b c = record { x = a; y = b; z = c }
+
+same-point : (a b c d e f : Float) → a ≡ d → b ≡ e → c ≡ f → point a b c ≡ point d e f
+same-point a b c d e f h k l = simp (h, k, l)
+
+pub step-told-loses-nothing : StepToldLosesNothing
+step-told-loses-nothing (Next p) (Next q) h = ap Next (same-point (p .x) (p .y) (p .z) (q .x) (q .y) (q .z) (cc) (cc) (cc))
+step-told-loses-nothing (Next p) Stuck h = cc
+step-told-loses-nothing Stuck (Next q) h = cc
+step-told-loses-nothing Stuck Stuck h = refl

@@ -1,0 +1,11 @@
+-- Lists by rule. Assumes nothing.
+use Prim.Native.Nat.{ℕ, zero, suc, _<_}
+use native.Mathlib.Nat.{le-of-suc-le-suc, not-suc-le-zero}
+use mathlib.Core.Path.{_≡_}
+use Rattle.numbers.specs.Rule.{tabulate}
+
+-- two rules that give the same list are the same at each index: so a rule is proved at all of them by one computation
+pub tabulate-same {ℓ} : {A : Type ℓ} (n : ℕ) (f g : ℕ → A) → tabulate n f ≡ tabulate n g → (k : ℕ) → k < n → f k ≡ g k
+tabulate-same zero f g e k h = absurd (not-suc-le-zero h)
+tabulate-same (suc n) f g e zero h = cc
+tabulate-same (suc n) f g e (suc k) h = tabulate-same n (λ (i : ℕ). f (suc i)) (λ (i : ℕ). g (suc i)) (cc) k (le-of-suc-le-suc h)
