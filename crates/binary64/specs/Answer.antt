@@ -15,3 +15,8 @@ andThen (refused n) f = refused n
 -- f tells any two values apart: what is said of f x leaves one possible x
 abbrev pub LosesNothing : {A B : Type 0} → (A → B) → Type 0
 LosesNothing {A = A} f = (x y : A) → f x ≡ f y → x ≡ y
+
+-- what a function that returns r has left of a lent buffer: 0 and the values, or the refusal's number and what the buffer held
+abbrev pub Wrote : {A : Type 0} → Answer A → ℕ → A → A → Type 0
+Wrote (answered a) r old new = (r ≡ 0) × (new ≡ a)
+Wrote (refused n) r old new = (r ≡ n) × (new ≡ old)

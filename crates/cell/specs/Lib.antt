@@ -1,3 +1,4 @@
 pub mod Edges
 pub mod Image
+pub mod Middles
 pub mod Newton

@@ -32,3 +32,13 @@ all (suc n) p = p n && all n p
 abbrev pub without : ℕ → List ℕ → List ℕ
 without j [] = []
 without j (i ∷ is) = cond (eqb i j) (without j is) (i ∷ without j is)
+
+-- the place of the first number of the list that equals x, or the length where there is none
+abbrev pub indexOf : List ℕ → ℕ → ℕ
+indexOf [] x = 0
+indexOf (y ∷ ys) x = cond (eqb x y) 0 (suc (indexOf ys x))
+
+-- the sum of f over a list
+abbrev pub sumOver : (ℕ → ℕ) → List ℕ → ℕ
+sumOver f [] = 0
+sumOver f (x ∷ xs) = f x + sumOver f xs
