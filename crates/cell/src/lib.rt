@@ -1,4 +1,4 @@
-// What the two cells share: a point, the answer of a locator, and one Newton step.
+// What the two cells share: a point, the answers of a locator and of a volume, and one Newton step.
 use mat3_col_major::Inverse;
 ghost use mathlib.Core.Path.{_≡_};
 ghost use Rattle.cell.specs.Newton.{coords, lessBy, stepFrom, stepTold};
@@ -22,6 +22,12 @@ pub enum Located {
     Inside(f64, f64, f64),
     Flat,
     Outside,
+}
+
+// A volume, or the number of a refusal.
+pub enum Measured {
+    Volume(f64),
+    Refused(u32),
 }
 
 fn moved(at: Point, by: [f64; 3]) -> Point

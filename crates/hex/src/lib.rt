@@ -33,27 +33,27 @@ pub const EDGE2NODE: [[usize; 2]; 12] = [
 ];
 
 pub const IDX2NODE: [usize; 24] = [
-    0,
+    0, // face 0, bottom
     3,
     2,
     1,
-    0,
+    0, // face 1, front
     1,
     5,
     4,
-    1,
+    1, // face 2, right
     2,
     6,
     5,
-    2,
+    2, // face 3, back
     3,
     7,
     6,
-    3,
+    3, // face 4, left
     0,
     4,
     7,
-    4,
+    4, // face 5, top
     5,
     6,
     7,

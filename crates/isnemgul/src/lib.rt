@@ -1,27 +1,38 @@
 // The C face: what a simulator links as libisnemgul.a (include/isnemgul.h). Each function takes its arguments apart, calls the Rattle face
-// and writes the answer. It returns 0 where it answered, and otherwise a refusal's number, and then no lent memory has changed.
+// and writes the answer. It returns 0 where it answered, and otherwise a refusal's number, and then no lent memory has changed: `Wrote`.
 use cell::Located;
+use cell::Measured;
+use hex_gradient::Outcome;
+use hex_gradient::WeightedGradient;
+use hex_iso::IsoMask;
+use hex_iso::IsoPosition;
 use mat3_col_major::Inverse;
 ghost use mathlib.Core.Path.{_≡_};
 ghost use Rattle.binary64.specs.Answer.{Wrote};
-ghost use Rattle.mat3_col_major.specs.Mat3 as Mat3;
-ghost use Rattle.mat3_col_major.specs.Mat3.{transposed, product, det, inverse};
+ghost use Rattle.mat3_col_major.specs.Mat3.{transposed, product, det, inverse, told as inverseTold};
 ghost use Rattle.cell.specs.Newton.{told};
-ghost use Rattle.hex.specs.Shape.{shape, slopes, jacobianAt};
-ghost use Rattle.hex_locate.specs.Locate.{located};
-ghost use Rattle.hex_children.specs.Children.{children};
+ghost use Rattle.cell.specs.Points.{told as volumeTold};
+ghost use Rattle.hex.specs.Shape as Hex;
+ghost use Rattle.hex_locate.specs.Locate.{located as hexLocated};
+ghost use Rattle.hex_gradient.specs.Gradient.{gradient, shapeGradient, weightedGradient, told as gradientTold};
+ghost use Rattle.hex_volume.specs.Volume.{volume as hexVolume};
+ghost use Rattle.hex_iso.specs.Cut.{isoMask, maskTold};
+ghost use Rattle.hex_iso.specs.Position.{isoPosition, isoEdges, positionTold};
+ghost use Rattle.hex_children.specs.Children.{children as hexChildren};
+ghost use Rattle.prism.specs.Shape as Prism;
+ghost use Rattle.prism_locate.specs.Locate.{located as prismLocated};
+ghost use Rattle.prism_volume.specs.Volume.{volumeAnswer as prismVolume};
+ghost use Rattle.prism_children.specs.Children.{children as prismChildren};
 
-#[no_mangle]
-pub extern "C" fn isn_mat3_transpose(m: &[f64; 9], out: &mut [f64; 9]) -> u32
-    ensures { λ r. ⌜ (r ≡ 0) × (now (out .exit) ≡ transposed (now (m .entry))) ⌝ }
+fn wide(x: u32) -> usize
+    ensures { λ r. ⌜ r ≡ x ⌝ }
 {
-    *out = mat3_col_major::transpose(*m);
-    0
+    x as usize
 }
 
-// Writes an inverse.
+// Each `put_` writes what one kind of answer holds.
 fn put_inverse(found: Inverse, out: &mut [f64; 9]) -> u32
-    ensures { λ r. ⌜ Wrote (Mat3.told found) r (now (out .entry)) (now (out .exit)) ⌝ }
+    ensures { λ r. ⌜ Wrote (inverseTold found) r (now (out .entry)) (now (out .exit)) ⌝ }
 {
     match found {
         Inverse::Of(a, b, c, d, e, f, g, h, i) => {
@@ -32,14 +43,6 @@ fn put_inverse(found: Inverse, out: &mut [f64; 9]) -> u32
     }
 }
 
-#[no_mangle]
-pub extern "C" fn isn_mat3_try_inverse(m: &[f64; 9], out: &mut [f64; 9]) -> u32
-    ensures { λ r. ⌜ Wrote (inverse (now (m .entry))) r (now (out .entry)) (now (out .exit)) ⌝ }
-{
-    put_inverse(mat3_col_major::try_inverse(*m), out)
-}
-
-// Writes the place of an origin that is inside.
 fn put_located(found: Located, at: &mut [f64; 3]) -> u32
     ensures { λ r. ⌜ Wrote (told found) r (now (at .entry)) (now (at .exit)) ⌝ }
 {
@@ -53,19 +56,220 @@ fn put_located(found: Located, at: &mut [f64; 3]) -> u32
     }
 }
 
+fn put_measured(found: Measured, out: &mut f64) -> u32
+    ensures { λ r. ⌜ Wrote (volumeTold found) r (now (out .entry)) (now (out .exit)) ⌝ }
+{
+    match found {
+        Measured::Volume(x) => {
+            *out = x;
+            0
+        }
+        Measured::Refused(n) => n,
+    }
+}
+
+fn put_position(found: IsoPosition, out: &mut [f64; 3]) -> u32
+    ensures { λ r. ⌜ Wrote (positionTold found) r (now (out .entry)) (now (out .exit)) ⌝ }
+{
+    match found {
+        IsoPosition::At(x, y, z) => {
+            *out = [x, y, z];
+            0
+        }
+        IsoPosition::Refused(n) => n,
+    }
+}
+
+fn put_mask(found: IsoMask, out: &mut u32) -> u32
+    ensures { λ r. ⌜ Wrote (maskTold found) r (now (out .entry)) (now (out .exit)) ⌝ }
+{
+    match found {
+        IsoMask::Mask(m) => {
+            *out = m;
+            0
+        }
+        IsoMask::Refused(n) => n,
+    }
+}
+
+fn put_gradient(found: WeightedGradient, dndx: &mut [f64; 24], detwei: &mut f64) -> u32
+    ensures { λ r. ⌜ Wrote (gradientTold found) r (now (dndx .entry), now (detwei .entry)) (now (dndx .exit), now (detwei .exit)) ⌝ }
+{
+    let outcome = found.outcome;
+    let gradient = found.dndx;
+    match outcome {
+        Outcome::Given => {
+            *dndx = gradient;
+            *detwei = found.detwei;
+            0
+        }
+        Outcome::Refused(n) => n,
+    }
+}
+
+#[no_mangle]
+pub extern "C" fn isn_mat3_transpose(m: &[f64; 9], out: &mut [f64; 9]) -> u32
+    ensures { λ r. ⌜ (r ≡ 0) × (now (out .exit) ≡ transposed (now (m .entry))) ⌝ }
+{
+    *out = mat3_col_major::transpose(*m);
+    0
+}
+
+#[no_mangle]
+pub extern "C" fn isn_mat3_mult_vec(a: &[f64; 9], b: &[f64; 3], out: &mut [f64; 3]) -> u32
+    ensures { λ r. ⌜ (r ≡ 0) × (now (out .exit) ≡ product (now (a .entry)) (now (b .entry))) ⌝ }
+{
+    *out = mat3_col_major::mult_vec(*a, *b);
+    0
+}
+
+#[no_mangle]
+pub extern "C" fn isn_mat3_determinant(m: &[f64; 9], out: &mut f64) -> u32
+    ensures { λ r. ⌜ (r ≡ 0) × (now (out .exit) ≡ det (now (m .entry))) ⌝ }
+{
+    *out = mat3_col_major::determinant(*m);
+    0
+}
+
+#[no_mangle]
+pub extern "C" fn isn_mat3_try_inverse(m: &[f64; 9], out: &mut [f64; 9]) -> u32
+    ensures { λ r. ⌜ Wrote (inverse (now (m .entry))) r (now (out .entry)) (now (out .exit)) ⌝ }
+{
+    put_inverse(mat3_col_major::try_inverse(*m), out)
+}
+
+#[no_mangle]
+pub extern "C" fn isn_hex_shapefunc(pco: &[f64; 3], out: &mut [f64; 8]) -> u32
+    ensures { λ r. ⌜ (r ≡ 0) × (now (out .exit) ≡ Hex.shape (now (pco .entry))) ⌝ }
+{
+    *out = hex::shapefunc(*pco);
+    0
+}
+
+#[no_mangle]
+pub extern "C" fn isn_hex_dndr(pco: &[f64; 3], out: &mut [f64; 24]) -> u32
+    ensures { λ r. ⌜ (r ≡ 0) × (now (out .exit) ≡ Hex.slopes (now (pco .entry))) ⌝ }
+{
+    *out = hex::dndr(*pco);
+    0
+}
+
+#[no_mangle]
+pub extern "C" fn isn_hex_dxdr(corners: &[f64; 24], pco: &[f64; 3], out: &mut [f64; 9]) -> u32
+    ensures { λ r. ⌜ (r ≡ 0) × (now (out .exit) ≡ Hex.jacobianAt (now (corners .entry)) (now (pco .entry))) ⌝ }
+{
+    *out = hex::dxdr(*corners, *pco);
+    0
+}
+
+#[no_mangle]
+pub extern "C" fn isn_hex_grad_shapefunc_from_dndr(
+    corners: &[f64; 24],
+    dndr: &[f64; 24],
+    dndx: &mut [f64; 24],
+    detjac: &mut f64,
+) -> u32
+    ensures { λ r. ⌜ (r ≡ 0) × (now (dndx .exit) ≡ gradient (now (corners .entry)) (now (dndr .entry)) .dndx) × (now (detjac .exit) ≡ gradient (now (corners .entry)) (now (dndr .entry)) .detjac) ⌝ }
+{
+    let found = hex_gradient::grad_shapefunc_from_dndr(*corners, *dndr);
+    let gradient = found.dndx;
+    *dndx = gradient;
+    *detjac = found.detjac;
+    0
+}
+
+#[no_mangle]
+pub extern "C" fn isn_hex_dndx(
+    corners: &[f64; 24],
+    pco: &[f64; 3],
+    shape: &mut [f64; 8],
+    dndx: &mut [f64; 24],
+    detjac: &mut f64,
+) -> u32
+    ensures { λ r. ⌜ (r ≡ 0) × (now (shape .exit) ≡ shapeGradient (now (corners .entry)) (now (pco .entry)) .shape) × (now (dndx .exit) ≡ shapeGradient (now (corners .entry)) (now (pco .entry)) .dndx) × (now (detjac .exit) ≡ shapeGradient (now (corners .entry)) (now (pco .entry)) .detjac) ⌝ }
+{
+    let found = hex_gradient::dndx(*corners, pco[0], pco[1], pco[2]);
+    let values = found.shape;
+    let gradient = found.dndx;
+    *shape = values;
+    *dndx = gradient;
+    *detjac = found.detjac;
+    0
+}
+
+#[no_mangle]
+pub extern "C" fn isn_hex_grad_shapefunc(
+    corners: &[f64; 24],
+    points: &[f64],
+    i1: u32,
+    i2: u32,
+    i3: u32,
+    dndx: &mut [f64; 24],
+    detwei: &mut f64,
+) -> u32
+    ensures { λ r. ⌜ Wrote (weightedGradient (now (corners .entry)) (now (points .entry)) i1 i2 i3) r (now (dndx .entry), now (detwei .entry)) (now (dndx .exit), now (detwei .exit)) ⌝ }
+{
+    put_gradient(
+        hex_gradient::grad_shapefunc(*corners, points, wide(i1), wide(i2), wide(i3)),
+        dndx,
+        detwei,
+    )
+}
+
+#[no_mangle]
+pub extern "C" fn isn_hex_volume(corners: &[f64; 24], points: &[f64], out: &mut f64) -> u32
+    ensures { λ r. ⌜ Wrote (hexVolume (now (corners .entry)) (now (points .entry))) r (now (out .entry)) (now (out .exit)) ⌝ }
+{
+    put_measured(hex_volume::volume(*corners, points), out)
+}
+
 #[no_mangle]
 pub extern "C" fn isn_hex_parametric_coord_for_origin(corners: &[f64; 24], at: &mut [f64; 3]) -> u32
-    ensures { λ r. ⌜ Wrote (located (now (corners .entry))) r (now (at .entry)) (now (at .exit)) ⌝ }
+    ensures { λ r. ⌜ Wrote (hexLocated (now (corners .entry))) r (now (at .entry)) (now (at .exit)) ⌝ }
 {
     put_located(hex_locate::parametric_coord_for_origin(*corners), at)
 }
 
 #[no_mangle]
-pub extern "C" fn isn_hex_dxdr(corners: &[f64; 24], pco: &[f64; 3], out: &mut [f64; 9]) -> u32
-    ensures { λ r. ⌜ (r ≡ 0) × (now (out .exit) ≡ jacobianAt (now (corners .entry)) (now (pco .entry))) ⌝ }
+pub extern "C" fn isn_hex_iso_position_on_edge(
+    center: &[f64; 3],
+    half_width: f64,
+    i0: u32,
+    i1: u32,
+    val0: f64,
+    val1: f64,
+    out: &mut [f64; 3],
+) -> u32
+    ensures { λ r. ⌜ Wrote (isoPosition (now (center .entry)) «half_width» i0 i1 val0 val1) r (now (out .entry)) (now (out .exit)) ⌝ }
 {
-    *out = hex::dxdr(*corners, *pco);
+    put_position(
+        hex_iso::iso_position_on_edge(*center, half_width, wide(i0), wide(i1), val0, val1),
+        out,
+    )
+}
+
+#[no_mangle]
+pub extern "C" fn isn_hex_iso_edges(
+    center: &[f64; 3],
+    half_width: f64,
+    values: &[f64; 8],
+    index: &mut u32,
+    positions: &mut [f64; 36],
+) -> u32
+    ensures { λ r. ⌜ (r ≡ 0) × (now (index .exit) ≡ isoEdges (now (center .entry)) «half_width» (now (values .entry)) .index) × (now (positions .exit) ≡ isoEdges (now (center .entry)) «half_width» (now (values .entry)) .positions) ⌝ }
+{
+    let found = hex_iso::iso_edges(*center, half_width, *values);
+    let held = found.positions;
+    *index = found.index;
+    *positions = held;
     0
+}
+
+#[no_mangle]
+pub extern "C" fn isn_hex_iso_mask(index: u32, mask: &mut u32) -> u32
+    ensures { λ r. ⌜ Wrote (isoMask index) r (now (mask .entry)) (now (mask .exit)) ⌝ }
+{
+    put_mask(hex_iso::iso_mask(index), mask)
 }
 
 #[no_mangle]
@@ -76,8 +280,67 @@ pub extern "C" fn isn_hex_subdivide(
     center: u32,
     out: &mut [u32; 64],
 ) -> u32
-    ensures { λ r. ⌜ (r ≡ 0) × (now (out .exit) ≡ children (now (corner .entry)) (now (edge .entry)) (now (quad .entry)) center) ⌝ }
+    ensures { λ r. ⌜ (r ≡ 0) × (now (out .exit) ≡ hexChildren (now (corner .entry)) (now (edge .entry)) (now (quad .entry)) center) ⌝ }
 {
     *out = hex_children::subdivide(*corner, *edge, *quad, center);
+    0
+}
+
+#[no_mangle]
+pub extern "C" fn isn_prism_shapefunc(pco: &[f64; 3], out: &mut [f64; 6]) -> u32
+    ensures { λ r. ⌜ (r ≡ 0) × (now (out .exit) ≡ Prism.shape (now (pco .entry))) ⌝ }
+{
+    *out = prism::shapefunc(*pco);
+    0
+}
+
+#[no_mangle]
+pub extern "C" fn isn_prism_dndr(pco: &[f64; 3], out: &mut [f64; 18]) -> u32
+    ensures { λ r. ⌜ (r ≡ 0) × (now (out .exit) ≡ Prism.slopes (now (pco .entry))) ⌝ }
+{
+    *out = prism::dndr(*pco);
+    0
+}
+
+#[no_mangle]
+pub extern "C" fn isn_prism_dxdr(corners: &[f64; 18], pco: &[f64; 3], out: &mut [f64; 9]) -> u32
+    ensures { λ r. ⌜ (r ≡ 0) × (now (out .exit) ≡ Prism.jacobianAt (now (corners .entry)) (now (pco .entry))) ⌝ }
+{
+    *out = prism::dxdr(*corners, *pco);
+    0
+}
+
+#[no_mangle]
+pub extern "C" fn isn_prism_volume(
+    corners: &[f64; 18],
+    line: &[f64],
+    triangle: &[f64],
+    out: &mut f64,
+) -> u32
+    ensures { λ r. ⌜ Wrote (prismVolume (now (corners .entry)) (now (line .entry)) (now (triangle .entry))) r (now (out .entry)) (now (out .exit)) ⌝ }
+{
+    put_measured(prism_volume::volume(*corners, line, triangle), out)
+}
+
+#[no_mangle]
+pub extern "C" fn isn_prism_parametric_coord_for_origin(
+    corners: &[f64; 18],
+    at: &mut [f64; 3],
+) -> u32
+    ensures { λ r. ⌜ Wrote (prismLocated (now (corners .entry))) r (now (at .entry)) (now (at .exit)) ⌝ }
+{
+    put_located(prism_locate::parametric_coord_for_origin(*corners), at)
+}
+
+#[no_mangle]
+pub extern "C" fn isn_prism_subdivide(
+    corner: &[u32; 6],
+    edge: &[u32; 9],
+    quad: &[u32; 3],
+    out: &mut [u32; 48],
+) -> u32
+    ensures { λ r. ⌜ (r ≡ 0) × (now (out .exit) ≡ prismChildren (now (corner .entry)) (now (edge .entry)) (now (quad .entry))) ⌝ }
+{
+    *out = prism_children::subdivide(*corner, *edge, *quad);
     0
 }

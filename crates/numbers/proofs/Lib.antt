@@ -1,3 +1,6 @@
+pub mod Bits
+pub mod Fill
+pub mod Fold
 pub mod Table
-pub mod Tests
 pub mod Tabulate
+pub mod Tests

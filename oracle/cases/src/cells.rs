@@ -2,6 +2,7 @@
 
 use crate::chance::Chance;
 use crate::floats::{MIN_SUBNORMAL, Mood, SPECIALS, two_to};
+use crate::noted;
 use crate::original::{Cell, HEX, PRISM, Place};
 
 /// Sizes of cells: plain ones, and those around which a determinant or its inverse leaves the
@@ -39,13 +40,24 @@ pub struct Shape<const N: usize> {
     steps: [f64; 7],
     inside: fn(&mut Chance) -> Place,
     border: fn(&mut Chance) -> Place,
+    noted: fn() -> Vec<[Place; N]>,
 }
 
-pub const HEXES: Shape<8> =
-    Shape { cell: HEX, steps: HEX_STEPS, inside: inside_hex, border: on_hex_border };
+pub const HEXES: Shape<8> = Shape {
+    cell: HEX,
+    steps: HEX_STEPS,
+    inside: inside_hex,
+    border: on_hex_border,
+    noted: noted::hexes,
+};
 
-pub const PRISMS: Shape<6> =
-    Shape { cell: PRISM, steps: PRISM_STEPS, inside: inside_prism, border: on_prism_border };
+pub const PRISMS: Shape<6> = Shape {
+    cell: PRISM,
+    steps: PRISM_STEPS,
+    inside: inside_prism,
+    border: on_prism_border,
+    noted: noted::prisms,
+};
 
 fn inside_hex(chance: &mut Chance) -> Place {
     std::array::from_fn(|_| chance.between(-1.0, 1.0))
@@ -78,8 +90,7 @@ fn on_prism_border(chance: &mut Chance) -> Place {
     }
 }
 
-fn map<const N: usize>(corners: &[Place; N], change: impl FnMut(f64) -> f64) -> [Place; N] {
-    let mut change = change;
+fn map<const N: usize>(corners: &[Place; N], mut change: impl FnMut(f64) -> f64) -> [Place; N] {
     corners.map(|corner| corner.map(&mut change))
 }
 
@@ -95,8 +106,18 @@ impl<const N: usize> Shape<N> {
         self.cell.places
     }
 
+    /// The same, with one coordinate of each corner worked out from its place.
+    fn with_axis(&self, axis: usize, coordinate: impl Fn(&Place) -> f64) -> [Place; N] {
+        let mut corners = self.unit();
+        for corner in &mut corners {
+            corner[axis] = coordinate(corner);
+        }
+        corners
+    }
+
     /// Calls `meet` with every boundary cell.
     pub fn boundaries(&self, meet: &mut dyn FnMut([Place; N])) {
+        (self.noted)().into_iter().for_each(&mut *meet);
         self.placed(meet);
         self.with_special_coordinates(meet);
         self.flat(meet);
@@ -125,29 +146,24 @@ impl<const N: usize> Shape<N> {
                 meet(corners);
             }
             for axis in 0..3 {
-                meet(self.unit().map(|mut p| {
-                    p[axis] *= special;
-                    p
-                }));
+                meet(self.with_axis(axis, |p| p[axis] * special));
             }
         }
     }
 
-    /// Cells without inside: all corners one point, or in a plane.
+    /// Cells without inside: all corners one point, or in a plane; zeros of all signs.
     fn flat(&self, meet: &mut dyn FnMut([Place; N])) {
-        for point in triples(&SPECIALS) {
-            meet([point; N]);
+        for signs in 0..1 << N {
+            let zero = |k: usize| if signs >> k & 1 == 1 { -0.0 } else { 0.0 };
+            meet(std::array::from_fn(|k| [zero(k); 3]));
         }
         for special in SPECIALS {
+            for other in SPECIALS {
+                meet([[special, other, 1.0]; N]);
+            }
             for axis in 0..3 {
-                meet(self.unit().map(|mut p| {
-                    p[axis] = special;
-                    p
-                }));
-                meet(self.unit().map(|mut p| {
-                    p[axis] = p[(axis + 1) % 3] + special;
-                    p
-                }));
+                meet(self.with_axis(axis, |_| special));
+                meet(self.with_axis(axis, |p| p[(axis + 1) % 3] + special));
             }
         }
     }
@@ -272,7 +288,7 @@ fn chance_size(chance: &mut Chance) -> f64 {
 }
 
 /// All triples of the given values.
-pub fn triples(values: &[f64]) -> impl Iterator<Item = Place> + '_ {
+pub fn triples<T: Copy>(values: &[T]) -> impl Iterator<Item = [T; 3]> + '_ {
     values.iter().flat_map(move |&x| {
         values.iter().flat_map(move |&y| values.iter().map(move |&z| [x, y, z]))
     })

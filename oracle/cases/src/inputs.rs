@@ -176,13 +176,14 @@ fn plain_list(length: usize) -> Vec<f64> {
     (0..length).map(|i| 0.9 - 0.37 * ((i * 5 % 7) as f64)).collect()
 }
 
-/// The original's own points, every degree of a line.
-fn line_tables() -> impl Iterator<Item = &'static [f64]> {
-    (0..7).filter_map(line_table).map(<[_]>::as_flattened)
+/// The original's own points of a line, degrees 0 to 6.
+fn line(degree: usize) -> &'static [f64] {
+    line_table(degree).expect("degrees 0 to 6").as_flattened()
 }
 
-fn triangle_tables() -> impl Iterator<Item = &'static [f64]> {
-    (0..3).filter_map(triangle_table).map(<[_]>::as_flattened)
+/// The original's own points of a triangle, degrees 0 to 2.
+fn triangle(degree: usize) -> &'static [f64] {
+    triangle_table(degree).expect("degrees 0 to 2").as_flattened()
 }
 
 /// Lists of 1 to 16 points, mostly short ones: a volume takes the cube of their number.
@@ -199,7 +200,11 @@ fn any_length(chance: &mut Chance, item: usize) -> usize {
     }
 }
 
-fn any_list(chance: &mut Chance, item: usize, table: impl FnOnce(&mut Chance) -> Vec<f64>) -> Vec<f64> {
+fn any_list(
+    chance: &mut Chance,
+    item: usize,
+    table: impl FnOnce(&mut Chance) -> Vec<f64>,
+) -> Vec<f64> {
     if chance.one_in(2) {
         return table(chance);
     }
@@ -211,16 +216,16 @@ fn any_list(chance: &mut Chance, item: usize, table: impl FnOnce(&mut Chance) ->
 /// The points of a degree: low degrees often, high ones seldom.
 fn any_line_table(chance: &mut Chance) -> Vec<f64> {
     let degree = if chance.one_in(12) { chance.below(7) } else { chance.below(3) };
-    line_table(degree as usize).expect("degrees 0 to 6").as_flattened().to_vec()
+    line(degree as usize).to_vec()
 }
 
 pub fn hex_cells_and_points(meet: Meet) {
-    let plain = HEXES.any(&mut Chance::new(5));
+    let plain = HEXES.plain_inside(&mut Chance::new(5));
     for length in (0..70).chain([1000, 1001]) {
         meet(given().corners(&HEXES.unit()).list(&plain_list(length)));
         meet(given().corners(&plain).list(&plain_list(length)));
     }
-    for table in line_tables() {
+    for table in (0..7).map(line) {
         meet(given().corners(&plain).list(table));
         for nudged in 0..table.len() {
             let mut list = table.to_vec();
@@ -232,16 +237,14 @@ pub fn hex_cells_and_points(meet: Meet) {
         meet(given().corners(&HEXES.unit()).list(&[a, b]));
         meet(given().corners(&plain).list(&[a, b, 0.5, c]));
     }
-    let mut count = 0;
-    let mut tables = [0, 1, 2].iter().cycle();
+    let mut turn = 0;
     HEXES.boundaries(&mut |corners| {
-        count += 1;
-        let degree = if count % 64 == 0 { count / 64 % 7 } else { *tables.next().unwrap() };
-        let table = line_table(degree).expect("degrees 0 to 6");
-        meet(given().corners(&corners).list(table.as_flattened()));
+        turn += 1;
+        let degree = if turn % 64 == 0 { turn / 64 % 7 } else { turn % 3 };
+        meet(given().corners(&corners).list(line(degree)));
     });
     for corners in underflowing_boxes() {
-        for table in line_tables() {
+        for table in (0..7).map(line) {
             meet(given().corners(&corners).list(table));
         }
         meet(given().corners(&corners).list(&[0.0, -1.0]));
@@ -262,34 +265,26 @@ pub fn hex_cell_and_points(chance: &mut Chance) -> Input {
 }
 
 pub fn hex_cells_points_and_indexes(meet: Meet) {
-    let plain = HEXES.any(&mut Chance::new(5));
+    let plain = HEXES.plain_inside(&mut Chance::new(5));
     for length in 0..41 {
         let n = length as u32 / 2;
         let indexes = [0, n.wrapping_sub(1), n, n + 1, 16, u32::MAX];
-        for [i1, i2, i3] in number_triples(&indexes) {
-            let input = given().corners(&plain).list(&plain_list(length));
-            meet(input.numbers(&[i1, i2, i3]));
+        for indexes in triples(&indexes) {
+            meet(given().corners(&plain).list(&plain_list(length)).numbers(&indexes));
         }
     }
-    let four = line_table(3).expect("degrees 0 to 6").as_flattened();
-    for indexes in number_triples(&[0, 1, 2, 3, 4, 5]) {
-        meet(given().corners(&plain).list(four).numbers(&indexes));
+    for indexes in triples(&[0, 1, 2, 3, 4, 5]) {
+        meet(given().corners(&plain).list(line(3)).numbers(&indexes));
     }
-    let three = line_table(2).expect("degrees 0 to 6").as_flattened();
     let mut turn = 0;
     HEXES.boundaries(&mut |corners| {
         turn += 1;
-        meet(given().corners(&corners).list(three).numbers(&[turn % 3, turn / 3 % 3, turn / 9 % 3]));
+        let indexes = [turn % 3, turn / 3 % 3, turn / 9 % 3];
+        meet(given().corners(&corners).list(line(2)).numbers(&indexes));
     });
     for [a, b, c] in triples(&SPECIALS) {
         meet(given().corners(&plain).list(&[a, b, 0.5, c]).numbers(&[0, 1, 0]));
     }
-}
-
-fn number_triples(values: &[u32]) -> impl Iterator<Item = [u32; 3]> + '_ {
-    values.iter().flat_map(move |&x| {
-        values.iter().flat_map(move |&y| values.iter().map(move |&z| [x, y, z]))
-    })
 }
 
 pub fn hex_cell_points_and_indexes(chance: &mut Chance) -> Input {
@@ -304,17 +299,17 @@ pub fn hex_cell_points_and_indexes(chance: &mut Chance) -> Input {
 }
 
 pub fn prism_cells_and_points(meet: Meet) {
-    let plain = PRISMS.any(&mut Chance::new(5));
-    for line in (0..42).chain([1000, 1001]) {
-        for triangle in (0..60).chain([1000, 1001, 1002]) {
-            let input = given().corners(&plain);
-            meet(input.list(&plain_list(line)).list(&plain_list(triangle)));
+    let plain = PRISMS.plain_inside(&mut Chance::new(5));
+    for on_line in (0..42).chain([1000, 1001]) {
+        for on_triangle in (0..60).chain([1000, 1001, 1002]) {
+            let (on_line, on_triangle) = (plain_list(on_line), plain_list(on_triangle));
+            meet(given().corners(&plain).list(&on_line).list(&on_triangle));
         }
     }
-    for line in line_tables() {
-        for triangle in triangle_tables() {
-            meet(given().corners(&plain).list(line).list(triangle));
-            meet(given().corners(&PRISMS.unit()).list(line).list(triangle));
+    for on_line in (0..7).map(line) {
+        for on_triangle in (0..3).map(triangle) {
+            meet(given().corners(&plain).list(on_line).list(on_triangle));
+            meet(given().corners(&PRISMS.unit()).list(on_line).list(on_triangle));
         }
     }
     for [a, b, c] in triples(&SPECIALS) {
@@ -324,9 +319,7 @@ pub fn prism_cells_and_points(meet: Meet) {
     let mut turn = 0;
     PRISMS.boundaries(&mut |corners| {
         turn += 1;
-        let line = line_table(turn % 3).expect("degrees 0 to 6").as_flattened();
-        let triangle = triangle_table(turn % 3).expect("degrees 0 to 2").as_flattened();
-        meet(given().corners(&corners).list(line).list(triangle));
+        meet(given().corners(&corners).list(line(turn % 3)).list(triangle(turn % 3)));
     });
     for x in [1e-108, -1e-108, MIN_SUBNORMAL, -MIN_SUBNORMAL] {
         let corners = PRISMS.unit().map(|p| [p[0] * x, p[1], p[2]]);
@@ -339,15 +332,11 @@ pub fn prism_cell_and_points(chance: &mut Chance) -> Input {
     let cell = prism_cell(chance);
     if chance.one_in(2) {
         let degree = chance.below(3) as usize;
-        let line = line_table(degree).expect("degrees 0 to 6").as_flattened();
-        let triangle = triangle_table(degree).expect("degrees 0 to 2").as_flattened();
-        return cell.list(line).list(triangle);
+        return cell.list(line(degree)).list(triangle(degree));
     }
-    let line = any_list(chance, 2, any_line_table);
-    let triangle = any_list(chance, 3, |chance| {
-        triangle_table(chance.below(3) as usize).expect("degrees 0 to 2").as_flattened().to_vec()
-    });
-    cell.list(&line).list(&triangle)
+    let on_line = any_list(chance, 2, any_line_table);
+    let on_triangle = any_list(chance, 3, |chance| triangle(chance.below(3) as usize).to_vec());
+    cell.list(&on_line).list(&on_triangle)
 }
 
 // Iso surface.

@@ -5,6 +5,7 @@ pub mod cells;
 pub mod chance;
 pub mod floats;
 pub mod inputs;
+pub mod noted;
 pub mod original;
 pub mod rows;
 pub mod words;

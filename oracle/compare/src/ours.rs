@@ -129,8 +129,8 @@ pub const CALLS: [(&str, Call); 22] = [
 
 /// Calls one function with an input's words, and sees that the words stay as they were.
 pub fn call(function: Call, words: &[u64], empty: Empty) -> Told {
-    let mut lent = words.to_vec();
-    let mut told = function(&mut Given { reader: Reader::new(black_box(&mut lent)), empty });
+    let lent = words.to_vec();
+    let mut told = function(&mut Given { reader: Reader::new(black_box(&lent)), empty });
     if black_box(&lent) != words {
         told.damage = Some("an input has changed");
     }
@@ -286,16 +286,7 @@ fn hex_grad_shapefunc(given: &mut Given) -> Told {
     let [i1, i2, i3] = given.numbers();
     let (mut dndx, mut detwei) = (Lent::<f64>::of(24), Lent::<f64>::of(1));
     let outcome = unsafe {
-        isn_hex_grad_shapefunc(
-            corners,
-            points,
-            length,
-            i1,
-            i2,
-            i3,
-            dndx.buffer(),
-            detwei.buffer(),
-        )
+        isn_hex_grad_shapefunc(corners, points, length, i1, i2, i3, dndx.buffer(), detwei.buffer())
     };
     told(outcome, &[&dndx, &detwei])
 }

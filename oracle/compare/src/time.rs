@@ -7,13 +7,22 @@ use cases::cells::{HEXES, PRISMS, Shape};
 use cases::chance::Chance;
 use cases::original::{self, Place};
 
+use crate::missing::MISSING;
 use crate::ours::{isn_hex_parametric_coord_for_origin, isn_prism_parametric_coord_for_origin};
 
 const CELLS: usize = 1000;
+/// Cells timed at once: few, so that a batch is seldom interrupted.
+const BATCH: usize = 20;
 const ROUNDS: usize = 41;
 
 pub fn run(seed: u64) {
-    println!("nanoseconds a call, median of {ROUNDS} rounds over {CELLS} cells");
+    if MISSING.iter().any(|name| name.ends_with("parametric_coord_for_origin")) {
+        println!("a locator is not in the archive");
+        return;
+    }
+    println!(
+        "nanoseconds a call over {CELLS} cells, each batch of {BATCH} at its median of {ROUNDS}"
+    );
     cells("hex", &HEXES, seed, original::hex_locate, |corners| {
         let mut at = [0.0; 3];
         let outcome = unsafe {
@@ -51,18 +60,19 @@ fn cells<const N: usize>(
     }
 }
 
-/// Rounds of both in turn, so that what slows the machine slows both.
+/// Both in turn, batch by batch, so that what slows the machine slows both.
 fn medians<const N: usize, A, B>(
     cells: &[[Place; N]],
     rust: impl Fn(&[Place; N]) -> A,
     ours: impl Fn(&[Place; N]) -> B,
 ) -> (f64, f64) {
-    let (mut of_rust, mut of_ours) = (Vec::new(), Vec::new());
-    for _ in 0..ROUNDS {
-        of_rust.push(a_call(cells, &rust));
-        of_ours.push(a_call(cells, &ours));
-    }
-    (median(of_rust), median(of_ours))
+    let batches = cells.chunks(BATCH).map(|batch| {
+        let (of_rust, of_ours): (Vec<f64>, Vec<f64>) =
+            (0..ROUNDS).map(|_| (a_call(batch, &rust), a_call(batch, &ours))).unzip();
+        (median(of_rust), median(of_ours))
+    });
+    let (of_rust, of_ours): (Vec<f64>, Vec<f64>) = batches.unzip();
+    (mean(&of_rust), mean(&of_ours))
 }
 
 fn a_call<const N: usize, A>(cells: &[[Place; N]], locate: impl Fn(&[Place; N]) -> A) -> f64 {
@@ -71,6 +81,10 @@ fn a_call<const N: usize, A>(cells: &[[Place; N]], locate: impl Fn(&[Place; N]) 
         black_box(locate(black_box(corners)));
     }
     start.elapsed().as_nanos() as f64 / cells.len() as f64
+}
+
+fn mean(times: &[f64]) -> f64 {
+    times.iter().sum::<f64>() / times.len() as f64
 }
 
 fn median(mut times: Vec<f64>) -> f64 {

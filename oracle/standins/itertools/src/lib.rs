@@ -18,9 +18,7 @@ pub trait Itertools: Iterator {
         Self: Sized,
         F: FnMut(&Self::Item, &Self::Item) -> std::cmp::Ordering,
     {
-        self.enumerate()
-            .max_by(|a, b| compare(&a.1, &b.1))
-            .map(|(place, _)| place)
+        self.enumerate().max_by(|a, b| compare(&a.1, &b.1)).map(|(place, _)| place)
     }
 }
 

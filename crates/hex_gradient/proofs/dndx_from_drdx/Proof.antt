@@ -1,0 +1,78 @@
+-- `hex_gradient::dndx_from_drdx` meets its contract: a turn stores the three slopes of its corner. Assumes nothing.
+use Prim.Native.Nat.{ℕ, zero, suc, _+_, _*_, _-_, _≤_}
+use native.Mathlib.Numerals.{add-one}
+use native.Mathlib.Omega.{arith}
+use mathlib.Core.Path.{_≡_, refl, _∙_}
+use mathlib.Core.List.{List}
+use lib.ListN.{set}
+use lib.Ieee.{Float}
+use borrow.Author.Needs.{needs}
+use Rattle.numbers.specs.Rule.{tabulate}
+use Rattle.binary64.specs.Binary64.{f0}
+use Rattle.hex_gradient.specs.Gradient.{slopeInSpace}
+use Rattle.hex_gradient.proofs.dndx_from_drdx.Statement.{statement}
+use Rattle.hex_gradient.proofs.dndx_from_drdx.Tie as tie
+
+-- the list after the first k turns
+unfoldable after : List Float → List Float → ℕ → List Float
+after dndr drdx zero = tabulate 24 (λ (i : ℕ). f0)
+after dndr drdx (suc k) =
+    let slope = slopeInSpace dndr drdx k in
+    set (set (set (after dndr drdx k) (3 * k + 0) (slope 0)) (3 * k + 1) (slope 1)) (3 * k + 2) (slope 2)
+
+abbrev Inv-loop : tie.InvT-loop
+Inv-loop dndr drdx dndx₀ inode₀ dndx inode = (inode ≤ 8) × (dndx ≡ after dndr drdx inode)
+
+abbrev μ-loop : tie.MeasureT-loop
+μ-loop dndr drdx dndx₀ inode₀ dndx inode = 8 - inode
+
+loop-holds : tie.Need-loop-holds Inv-loop μ-loop
+unfolding after
+loop-holds c = (search needs, refl)
+
+loop-again : tie.Need-loop-again Inv-loop μ-loop
+unfolding after
+loop-again c =
+    let turn = c .before .before .before .before .loop in (
+      search needs,
+      rw (
+        add-one (turn .inode),
+        ← turn .inv .1,
+        c .dndx-entry3 .ensures,
+        c .before .dndx-entry2 .ensures,
+        c .before .before .dndx-entry .ensures,
+      ),
+    )
+
+returns : tie.Need-returns Inv-loop μ-loop
+unfolding after
+returns c =
+    let done : c .before .loop .inode ≡ 8 = omega arith in
+    c .before .loop .inv .1 ∙ rw done
+
+pub dndx-from-drdx-spec : {M : Type 1} → statement M
+dndx-from-drdx-spec =
+    tie.close
+    (tie.spec
+    Inv-loop
+    μ-loop
+    loop-holds
+    (λ c κs. search needs)
+    (λ c. search needs)
+    (λ c. search needs)
+    (λ c. search needs)
+    (λ c. search needs)
+    (λ c κs. search needs)
+    (λ c. search needs)
+    (λ c. search needs)
+    (λ c. search needs)
+    (λ c. search needs)
+    (λ c κs. search needs)
+    (λ c. search needs)
+    (λ c. search needs)
+    (λ c. search needs)
+    (λ c. search needs)
+    (λ c. search needs)
+    (λ c. search needs)
+    loop-again
+    returns)

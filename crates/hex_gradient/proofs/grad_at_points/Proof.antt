@@ -1,0 +1,37 @@
+-- `hex_gradient::grad_at_points` meets its contract: the gradient at the place that was read, and three products. Assumes nothing.
+use borrow.Author.Needs.{needs}
+use Rattle.hex_gradient.specs.Gradient.{atPoints}
+use Rattle.hex_gradient.proofs.grad_at_points.Statement.{statement}
+use Rattle.hex_gradient.proofs.grad_at_points.Tie as tie
+
+returns : tie.Need-returns
+unfolding atPoints
+returns c = simp (c .before .before .before .before .before .dndx .ensures)
+
+pub grad-at-points-spec : {M : Type 1} → statement M
+grad-at-points-spec =
+    tie.close
+    (tie.spec
+    (λ c. search needs)
+    (λ c. search needs)
+    (λ c. search needs)
+    (λ c. search needs)
+    (λ c. search needs)
+    (λ c. search needs)
+    (λ c. search needs)
+    (λ c. search needs)
+    (λ c. search needs)
+    (λ c κs. search needs)
+    (λ c. search needs)
+    (λ c. search needs)
+    (λ c. search needs)
+    (λ c. search needs)
+    (λ c. search needs)
+    (λ c. search needs)
+    (λ c. search needs)
+    (λ c. search needs)
+    (λ c. search needs)
+    (λ c. search needs)
+    (λ c. search needs)
+    (λ c. search needs)
+    returns)

@@ -1,0 +1,2 @@
+pub mod Wedge
+pub mod Shape

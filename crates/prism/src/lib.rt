@@ -1,0 +1,132 @@
+// prism.rs: the table of the prism's edges, its shape functions and the slopes of the image.
+// Corners are 18 floats, corner by corner, as is whatever has three floats a corner. Corners 0, 1, 2 are the bottom triangle, 3, 4, 5 the top.
+ghost use mathlib.Core.Path.{_≡_};
+ghost use Prim.Native.Nat.{_<_};
+ghost use Rattle.cell.specs.Image.{imageOn, jacobianOn, jacobian};
+ghost use Rattle.prism.specs.Wedge.{edges};
+ghost use Rattle.prism.specs.Shape.{shape, slopes, imageAt, jacobianAt};
+
+pub const EDGE2NODE: [[usize; 2]; 9] = [
+    [0, 1], // edge 0
+    [1, 2], // edge 1
+    [2, 0], // edge 2
+    [3, 4], // edge 3
+    [4, 5], // edge 4
+    [5, 3], // edge 5
+    [0, 3], // edge 6
+    [1, 4], // edge 7
+    [2, 5], // edge 8
+];
+
+// The table as a value, so that a contract holds its rows.
+pub fn edge2node() -> [[usize; 2]; 9]
+    ensures { λ r. ⌜ r ≡ edges ⌝ }
+{
+    EDGE2NODE
+}
+
+pub fn shapefunc(pco: [f64; 3]) -> [f64; 6]
+    ensures { λ r. ⌜ r ≡ shape pco ⌝ }
+{
+    let one = 1.0;
+    let r = pco[0];
+    let s = pco[1];
+    let t = pco[2];
+    let tm = one - t;
+    let rs = one - r - s;
+    [rs * tm, r * tm, s * tm, rs * t, r * t, s * t]
+}
+
+pub fn dndr(pco: [f64; 3]) -> [f64; 18]
+    ensures { λ r. ⌜ r ≡ slopes pco ⌝ }
+{
+    let zero = 0.0;
+    let one = 1.0;
+    let r = pco[0];
+    let s = pco[1];
+    let t = pco[2];
+    [
+        -one + t,
+        -one + t,
+        -one + r + s,
+        one - t,
+        zero,
+        -r,
+        zero,
+        one - t,
+        -s,
+        -t,
+        -t,
+        one - r - s,
+        t,
+        zero,
+        r,
+        zero,
+        t,
+        s,
+    ]
+}
+
+// Entry (idim, ir) of the Jacobian, from the slopes.
+fn dxdr_entry(p: [f64; 18], dndr: [f64; 18], idim: usize, ir: usize) -> f64
+    requires { ⌜ (idim < 3) × (ir < 3) ⌝ }
+    ensures { λ r. ⌜ r ≡ jacobianOn 6 p dndr idim ir ⌝ }
+{
+    let mut dxdr = 0.0;
+    dxdr = dxdr + p[0 + idim] * dndr[0 + ir];
+    dxdr = dxdr + p[3 + idim] * dndr[3 + ir];
+    dxdr = dxdr + p[6 + idim] * dndr[6 + ir];
+    dxdr = dxdr + p[9 + idim] * dndr[9 + ir];
+    dxdr = dxdr + p[12 + idim] * dndr[12 + ir];
+    dxdr = dxdr + p[15 + idim] * dndr[15 + ir];
+    dxdr
+}
+
+// The Jacobian from the slopes, row by row.
+fn dxdr_from_dndr(p: [f64; 18], dndr: [f64; 18]) -> [f64; 9]
+    ensures { λ r. ⌜ r ≡ jacobian 6 p dndr ⌝ }
+{
+    [
+        dxdr_entry(p, dndr, 0, 0),
+        dxdr_entry(p, dndr, 0, 1),
+        dxdr_entry(p, dndr, 0, 2),
+        dxdr_entry(p, dndr, 1, 0),
+        dxdr_entry(p, dndr, 1, 1),
+        dxdr_entry(p, dndr, 1, 2),
+        dxdr_entry(p, dndr, 2, 0),
+        dxdr_entry(p, dndr, 2, 1),
+        dxdr_entry(p, dndr, 2, 2),
+    ]
+}
+
+pub fn dxdr(p: [f64; 18], pco: [f64; 3]) -> [f64; 9]
+    ensures { λ r. ⌜ r ≡ jacobianAt p pco ⌝ }
+{
+    let dndr = dndr(pco);
+    dxdr_from_dndr(p, dndr)
+}
+
+// Axis idim of the image, from the shape values.
+fn image_entry(sf: [f64; 6], p: [f64; 18], idim: usize) -> f64
+    requires { ⌜ idim < 3 ⌝ }
+    ensures { λ r. ⌜ r ≡ imageOn 6 sf p idim ⌝ }
+{
+    sf[0] * p[0 + idim]
+        + sf[1] * p[3 + idim]
+        + sf[2] * p[6 + idim]
+        + sf[3] * p[9 + idim]
+        + sf[4] * p[12 + idim]
+        + sf[5] * p[15 + idim]
+}
+
+// The image of a place, as the Newton step has it.
+pub fn image(p: [f64; 18], pco: [f64; 3]) -> [f64; 3]
+    ensures { λ r. ⌜ r ≡ imageAt p pco ⌝ }
+{
+    let sf = shapefunc(pco);
+    [
+        image_entry(sf, p, 0),
+        image_entry(sf, p, 1),
+        image_entry(sf, p, 2),
+    ]
+}

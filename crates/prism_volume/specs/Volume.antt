@@ -1,0 +1,48 @@
+-- The volume of a prism, by points that the caller lends. Definitions only.
+-- A line point is two floats, its place and its weight; a triangle point is three, its two coordinates and its weight.
+use Prim.Native.Nat.{ℕ, _+_, _*_}
+use mathlib.Core.Bool.{cond}
+use mathlib.Core.List.{List, [], _∷_}
+use lib.Ieee.{Float}
+use Rattle.numbers.specs.Rule.{foldTo}
+use Rattle.binary64.specs.Binary64.{_⊕_, _⊗_, _⊘_, _!_, f0, f1, f2}
+use Rattle.binary64.specs.Answer.{Answer, answered, refused}
+use Rattle.mat3_col_major.specs.Mat3.{det}
+use Rattle.cell.specs.Points.{pointCount, notWhole, notOneTo16, place, weight}
+use Rattle.prism.specs.Shape.{jacobianAt}
+
+-- one half and one quarter, worked out as the source does
+abbrev pub half : Float
+half = f1 ⊘ f2
+
+abbrev pub one4th : Float
+one4th = half ⊗ half
+
+-- triangle point j at the height of line point i: the line goes from -1 to 1, the prism from 0 to 1
+abbrev pub placeOf : List Float → List Float → ℕ → ℕ → List Float
+placeOf line triangle i j = triangle ! (3 * j) ∷ triangle ! (3 * j + 1) ∷ (place line i ⊕ f1) ⊗ half ∷ []
+
+-- the line's weight times the triangle's
+abbrev pub weightOf : List Float → List Float → ℕ → ℕ → Float
+weightOf line triangle i j = weight line i ⊗ triangle ! (3 * j + 2)
+
+-- what two points add: the determinant of the Jacobian, handed over row by row, times their weight
+unfoldable pub termAt : List Float → List Float → List Float → ℕ → ℕ → Float
+termAt p line triangle i j = det (jacobianAt p (placeOf line triangle i j)) ⊗ weightOf line triangle i j
+
+-- "The prism's line points are outer, its triangle points inner": a sum with the first n terms of line point i added,
+unfoldable pub layer : List Float → List Float → List Float → ℕ → Float → ℕ → Float
+layer p line triangle n sum i = foldTo (λ (a x : Float). a ⊕ x) sum n (termAt p line triangle i)
+
+-- and the first m layers, n terms each, from plus zero
+unfoldable pub stack : List Float → List Float → List Float → ℕ → ℕ → Float
+stack p line triangle n m = foldTo (layer p line triangle n) f0 m (λ (i : ℕ). i)
+
+-- "Volume and gradient: 8, 7, 9 (for prisms each number looks at the line list first)."
+abbrev pub volumeAnswer : List Float → List Float → List Float → Answer Float
+volumeAnswer p line triangle =
+    cond (notWhole 2 line) (refused 8)
+    (cond (notWhole 3 triangle) (refused 8)
+    (cond (notOneTo16 2 line) (refused 7)
+    (cond (notOneTo16 3 triangle) (refused 7)
+    (answered (stack p line triangle (pointCount 3 triangle) (pointCount 2 line) ⊗ one4th)))))

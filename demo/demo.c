@@ -1,0 +1,32 @@
+/* Where does the thermocouple sit? A probe is buried in a cast block that is meshed by one hexahedron and one prism. */
+#include <stdio.h>
+#include "isnemgul.h"
+
+/* The corners with the probe's place subtracted. */
+static void around(const double *mesh, size_t corners, const double probe[3], double out[]) {
+    for (size_t k = 0; k < corners; k++)
+        for (size_t i = 0; i < 3; i++)
+            out[3 * k + i] = mesh[3 * k + i] - probe[i];
+}
+
+static void say(const char *cell, const double probe[3], uint32_t answer, const double at[3]) {
+    printf("%s, probe at (%g, %g, %g): ", cell, probe[0], probe[1], probe[2]);
+    if (answer == 0)
+        printf("inside at (%.17g, %.17g, %.17g)\n", at[0], at[1], at[2]);
+    else
+        printf("refused %u, %s\n", (unsigned)answer, answer == 1 ? "the cell is flat there" : "the probe is outside");
+}
+
+int main(void) {
+    static const double block[24] = {0, 0, 0, 4, 0, 0, 5, 3, 0, 0, 3, 1, 0, 0, 6, 4, 1, 6, 5, 4, 7, 0, 3, 6};
+    static const double rib[18] = {4, 0, 0, 7, 0, 0, 5, 3, 0, 4, 1, 6, 7, 1, 6, 5, 4, 7};
+    static const double probes[2][3] = {{1.5, 1.25, 2}, {5, 1.5, 3}};
+    double corners[24], at[3];
+    for (size_t n = 0; n < 2; n++) {
+        around(block, 8, probes[n], corners);
+        say("block", probes[n], isn_hex_parametric_coord_for_origin(corners, at), at);
+        around(rib, 6, probes[n], corners);
+        say("rib", probes[n], isn_prism_parametric_coord_for_origin(corners, at), at);
+    }
+    return 0;
+}

@@ -1,0 +1,110 @@
+/* Isnemgul: hexahedra and prisms, proved. Link with libisnemgul.a (`rt staticlib isnemgul`).
+ *
+ * Every function returns 0 where it answered and otherwise a refusal's number, and then no lent memory has changed.
+ *
+ * - An array parameter is a pointer to that many elements. A list is a pointer and a length in elements; a list of length 0 may
+ *   have a null pointer. Every other pointer is valid and aligned for its type. The buffers of one call do not overlap.
+ * - Corners are flat, node by node, x y z. Hexahedron: xyz Xyz XYz xYz xyZ XyZ XYZ xYZ, a capital for the upper side of that axis.
+ *   Prism: the lower triangle, then the upper one in the same order. The probe is the origin: subtract its place from the corners.
+ * - Every float is answered, NaN and infinities too. The caller's rounding mode is to nearest, and subnormals are not flushed to
+ *   zero: do not link start-up code that changes this, as -ffast-math does.
+ */
+#ifndef ISNEMGUL_H
+#define ISNEMGUL_H
+
+#include <stddef.h>
+#include <stdint.h>
+
+#ifdef __cplusplus
+extern "C" {
+#endif
+
+/* Matrices of nine floats, column by column. */
+
+/* out = the transpose of m. Answers 0. */
+uint32_t isn_mat3_transpose(const double m[9], double out[9]);
+
+/* out = a times b. Answers 0. */
+uint32_t isn_mat3_mult_vec(const double a[9], const double b[3], double out[3]);
+
+/* out = the determinant of m. Answers 0. */
+uint32_t isn_mat3_determinant(const double m[9], double out[1]);
+
+/* out = the inverse of m. Refusal 1: the determinant is plus or minus zero. A NaN or infinite determinant is not refused. */
+uint32_t isn_mat3_try_inverse(const double m[9], double out[9]);
+
+/* Hexahedron. A place pco is three coordinates in [-1,1]. */
+
+/* out = the eight shape values at pco. Answers 0. */
+uint32_t isn_hex_shapefunc(const double pco[3], double out[8]);
+
+/* out = their slopes, corner by corner, three each. Answers 0. */
+uint32_t isn_hex_dndr(const double pco[3], double out[24]);
+
+/* out = the Jacobian of the image at pco, row by row: row i is axis i, column j the coordinate. Answers 0. */
+uint32_t isn_hex_dxdr(const double corners[24], const double pco[3], double out[9]);
+
+/* dndx = the shape values' gradients from the slopes, corner by corner; detjac = the Jacobian's determinant. Answers 0:
+ * a zero determinant gives what division by zero gives. */
+uint32_t isn_hex_grad_shapefunc_from_dndr(const double corners[24], const double dndr[24], double dndx[24], double detjac[1]);
+
+/* shape, dndx and detjac at pco. Answers 0. */
+uint32_t isn_hex_dndx(const double corners[24], const double pco[3], double shape[8], double dndx[24], double detjac[1]);
+
+/* The gradients at the place of points i1, i2 and i3 of a list (place, weight: 2 floats a point), and detwei = detjac times their
+ * three weights. Refusals: 8 the list is not whole; 7 it has not 1 to 16 points; 9 a point number is out of range. */
+uint32_t isn_hex_grad_shapefunc(const double corners[24], const double *points, size_t points_len, uint32_t i1, uint32_t i2,
+                                uint32_t i3, double dndx[24], double detwei[1]);
+
+/* out = the volume by the points of the list (place, weight). Refusals: 8 the list is not whole; 7 it has not 1 to 16 points. */
+uint32_t isn_hex_volume(const double corners[24], const double *points, size_t points_len, double out[1]);
+
+/* at = the place whose image is the origin, by twenty Newton steps. Refusals: 1 a determinant is zero; 2 the origin is outside. */
+uint32_t isn_hex_parametric_coord_for_origin(const double corners[24], double at[3]);
+
+/* out = where an iso surface cuts the line between nodes i0 and i1 of a cube, with val0 and val1 there. Refusal 9: a node number
+ * above 7. */
+uint32_t isn_hex_iso_position_on_edge(const double center[3], double half_width, uint32_t i0, uint32_t i1, double val0, double val1,
+                                      double out[3]);
+
+/* index = the sign index of eight values (bit k: value k is below zero); positions = where each of the twelve edges is cut, three
+ * floats each, plus infinities for an edge that is not. Answers 0. */
+uint32_t isn_hex_iso_edges(const double center[3], double half_width, const double values[8], uint32_t index[1],
+                           double positions[36]);
+
+/* mask = the cut edges of a sign index (bit k: edge k is cut). Refusal 9: the index is above 255. */
+uint32_t isn_hex_iso_mask(uint32_t index, uint32_t mask[1]);
+
+/* out = the node numbers of the eight children, eight each, from the numbers of the corners, edge middles, face middles and the
+ * centre. Answers 0. */
+uint32_t isn_hex_subdivide(const uint32_t corner[8], const uint32_t edge[12], const uint32_t quad[6], uint32_t center,
+                           uint32_t out[64]);
+
+/* Prism. A place is r >= 0, s >= 0, r + s <= 1 in the triangle, t in [0,1] upward. */
+
+/* out = the six shape values at pco. Answers 0. */
+uint32_t isn_prism_shapefunc(const double pco[3], double out[6]);
+
+/* out = their slopes, corner by corner, three each. Answers 0. */
+uint32_t isn_prism_dndr(const double pco[3], double out[18]);
+
+/* out = the Jacobian of the image at pco, row by row. Answers 0. */
+uint32_t isn_prism_dxdr(const double corners[18], const double pco[3], double out[9]);
+
+/* out = the volume by line points (place, weight: 2 floats each) and triangle points (r, s, weight: 3 floats each). Refusals: 8 the
+ * line list, then the triangle list, is not whole; 7 the line list, then the triangle list, has not 1 to 16 points. */
+uint32_t isn_prism_volume(const double corners[18], const double *line, size_t line_len, const double *triangle,
+                          size_t triangle_len, double out[1]);
+
+/* at = the place whose image is the origin, by twenty Newton steps. Refusals: 1 a determinant is zero; 2 the origin is outside. */
+uint32_t isn_prism_parametric_coord_for_origin(const double corners[18], double at[3]);
+
+/* out = the node numbers of the eight children, six each, from the numbers of the corners, edge middles and the middles of the
+ * three quadrilateral faces (0,3,4,1), (1,4,5,2), (2,5,3,0). Answers 0. */
+uint32_t isn_prism_subdivide(const uint32_t corner[6], const uint32_t edge[9], const uint32_t quad[3], uint32_t out[48]);
+
+#ifdef __cplusplus
+}
+#endif
+
+#endif
