@@ -157,6 +157,27 @@ fn dxdr_entry(p: [f64; 24], dndr: [f64; 24], idim: usize, jdim: usize) -> f64
 pub fn dxdr_from_dndr(p: [f64; 24], dndr: [f64; 24]) -> [f64; 9]
     ensures { λ r. ⌜ r ≡ jacobian 8 p dndr ⌝ }
 {
+    let mut dxdr = [0.0; 9];
+    for idim in 0..3usize {
+        dxdr[3 * idim + 0] = dxdr_entry(p, dndr, idim, 0);
+        dxdr[3 * idim + 1] = dxdr_entry(p, dndr, idim, 1);
+        dxdr[3 * idim + 2] = dxdr_entry(p, dndr, idim, 2);
+    }
+    dxdr
+}
+
+pub fn dxdr(p: [f64; 24], pco: [f64; 3]) -> [f64; 9]
+    ensures { λ r. ⌜ r ≡ jacobianAt p pco ⌝ }
+{
+    let dndr = dndr(pco);
+    dxdr_from_dndr(p, dndr)
+}
+
+// The same by a path of its own for the Newton step, which is then compiled into the step.
+pub fn jacobian(p: [f64; 24], pco: [f64; 3]) -> [f64; 9]
+    ensures { λ r. ⌜ r ≡ jacobianAt p pco ⌝ }
+{
+    let dndr = dndr(pco);
     [
         dxdr_entry(p, dndr, 0, 0),
         dxdr_entry(p, dndr, 0, 1),
@@ -168,13 +189,6 @@ pub fn dxdr_from_dndr(p: [f64; 24], dndr: [f64; 24]) -> [f64; 9]
         dxdr_entry(p, dndr, 2, 1),
         dxdr_entry(p, dndr, 2, 2),
     ]
-}
-
-pub fn dxdr(p: [f64; 24], pco: [f64; 3]) -> [f64; 9]
-    ensures { λ r. ⌜ r ≡ jacobianAt p pco ⌝ }
-{
-    let dndr = dndr(pco);
-    dxdr_from_dndr(p, dndr)
 }
 
 // Axis idim of the image, from the shape values.

@@ -11,7 +11,7 @@ fn step_from(p: [f64; 24], at: Point) -> Step
 {
     let pco = [at.x, at.y, at.z];
     let pos = hex::image(p, pco);
-    let jac = hex::dxdr(p, pco);
+    let jac = hex::jacobian(p, pco);
     cell::newton_step(at, pos, jac)
 }
 

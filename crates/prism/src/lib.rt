@@ -86,6 +86,27 @@ fn dxdr_entry(p: [f64; 18], dndr: [f64; 18], idim: usize, ir: usize) -> f64
 fn dxdr_from_dndr(p: [f64; 18], dndr: [f64; 18]) -> [f64; 9]
     ensures { λ r. ⌜ r ≡ jacobian 6 p dndr ⌝ }
 {
+    let mut dxdr = [0.0; 9];
+    for idim in 0..3usize {
+        dxdr[3 * idim + 0] = dxdr_entry(p, dndr, idim, 0);
+        dxdr[3 * idim + 1] = dxdr_entry(p, dndr, idim, 1);
+        dxdr[3 * idim + 2] = dxdr_entry(p, dndr, idim, 2);
+    }
+    dxdr
+}
+
+pub fn dxdr(p: [f64; 18], pco: [f64; 3]) -> [f64; 9]
+    ensures { λ r. ⌜ r ≡ jacobianAt p pco ⌝ }
+{
+    let dndr = dndr(pco);
+    dxdr_from_dndr(p, dndr)
+}
+
+// The same by a path of its own for the Newton step, which is then compiled into the step.
+pub fn jacobian(p: [f64; 18], pco: [f64; 3]) -> [f64; 9]
+    ensures { λ r. ⌜ r ≡ jacobianAt p pco ⌝ }
+{
+    let dndr = dndr(pco);
     [
         dxdr_entry(p, dndr, 0, 0),
         dxdr_entry(p, dndr, 0, 1),
@@ -97,13 +118,6 @@ fn dxdr_from_dndr(p: [f64; 18], dndr: [f64; 18]) -> [f64; 9]
         dxdr_entry(p, dndr, 2, 1),
         dxdr_entry(p, dndr, 2, 2),
     ]
-}
-
-pub fn dxdr(p: [f64; 18], pco: [f64; 3]) -> [f64; 9]
-    ensures { λ r. ⌜ r ≡ jacobianAt p pco ⌝ }
-{
-    let dndr = dndr(pco);
-    dxdr_from_dndr(p, dndr)
 }
 
 // Axis idim of the image, from the shape values.

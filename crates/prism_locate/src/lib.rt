@@ -12,7 +12,7 @@ fn step_from(p: [f64; 18], at: Point) -> Step
 {
     let pco = [at.x, at.y, at.z];
     let pos = prism::image(p, pco);
-    let jac = prism::dxdr(p, pco);
+    let jac = prism::jacobian(p, pco);
     cell::newton_step(at, pos, jac)
 }
 

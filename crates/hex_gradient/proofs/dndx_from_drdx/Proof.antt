@@ -1,37 +1,26 @@
 -- `hex_gradient::dndx_from_drdx` meets its contract: a turn stores the three slopes of its corner. Assumes nothing.
-use Prim.Native.Nat.{ℕ, zero, suc, _+_, _*_, _-_, _≤_}
+use Prim.Native.Nat.{_-_, _≤_}
 use native.Mathlib.Numerals.{add-one}
 use native.Mathlib.Omega.{arith}
 use mathlib.Core.Path.{_≡_, refl, _∙_}
-use mathlib.Core.List.{List}
-use lib.ListN.{set}
-use lib.Ieee.{Float}
 use borrow.Author.Needs.{needs}
-use Rattle.numbers.specs.Rule.{tabulate}
-use Rattle.binary64.specs.Binary64.{f0}
+use Rattle.numbers.proofs.Fill.{fillRow, fillRows}
 use Rattle.hex_gradient.specs.Gradient.{slopeInSpace}
 use Rattle.hex_gradient.proofs.dndx_from_drdx.Statement.{statement}
 use Rattle.hex_gradient.proofs.dndx_from_drdx.Tie as tie
 
--- the list after the first k turns
-unfoldable after : List Float → List Float → ℕ → List Float
-after dndr drdx zero = tabulate 24 (λ (i : ℕ). f0)
-after dndr drdx (suc k) =
-    let slope = slopeInSpace dndr drdx k in
-    set (set (set (after dndr drdx k) (3 * k + 0) (slope 0)) (3 * k + 1) (slope 1)) (3 * k + 2) (slope 2)
-
 abbrev Inv-loop : tie.InvT-loop
-Inv-loop dndr drdx dndx₀ inode₀ dndx inode = (inode ≤ 8) × (dndx ≡ after dndr drdx inode)
+Inv-loop dndr drdx dndx₀ inode₀ dndx inode = (inode ≤ 8) × (dndx ≡ fillRows (slopeInSpace dndr drdx) 3 inode dndx₀)
 
 abbrev μ-loop : tie.MeasureT-loop
 μ-loop dndr drdx dndx₀ inode₀ dndx inode = 8 - inode
 
 loop-holds : tie.Need-loop-holds Inv-loop μ-loop
-unfolding after
+unfolding fillRows
 loop-holds c = (search needs, refl)
 
 loop-again : tie.Need-loop-again Inv-loop μ-loop
-unfolding after
+unfolding fillRows fillRow
 loop-again c =
     let turn = c .before .before .before .before .loop in (
       search needs,
@@ -45,7 +34,7 @@ loop-again c =
     )
 
 returns : tie.Need-returns Inv-loop μ-loop
-unfolding after
+unfolding fillRows fillRow
 returns c =
     let done : c .before .loop .inode ≡ 8 = omega arith in
     c .before .loop .inv .1 ∙ rw done

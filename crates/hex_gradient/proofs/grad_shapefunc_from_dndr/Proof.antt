@@ -10,8 +10,12 @@ use Rattle.hex_gradient.specs.declared.Gradient.{Gradient}
 use Rattle.hex_gradient.proofs.grad_shapefunc_from_dndr.Statement.{statement}
 use Rattle.hex_gradient.proofs.grad_shapefunc_from_dndr.Tie as tie
 
+abbrev record-of : List Float → Float → Gradient
+record-of dndx det = record { dndx = dndx; detjac = det }
+
+-- the results of the last three calls, at any Jacobian
 module _ (dndr jac drdx dndx : List Float) (det : Float) where
-  composed : det ≡ gradientDet jac → drdx ≡ scaledCofactors (f1 ⊘ det) jac → dndx ≡ slopesInSpace dndr drdx → _≡_ {A = Gradient} (record { dndx = dndx; detjac = det }) (fromJacobian dndr jac)
+  composed : det ≡ gradientDet jac → drdx ≡ scaledCofactors (f1 ⊘ det) jac → dndx ≡ slopesInSpace dndr drdx → record-of dndx det ≡ fromJacobian dndr jac
   unfolding fromJacobian
   composed is-det is-drdx is-dndx = simp (is-dndx, is-drdx, is-det)
 

@@ -1,0 +1,30 @@
+-- `replay::words::word` is safe: what is shifted up leaves room for a byte. Assumes nothing.
+use Prim.Native.Nat.{_≤_}
+use native.Mathlib.Omega.{arith}
+use borrow.Author.Needs.{needs}
+use Rattle.replay.proofs.words.word.Statement.{statement}
+use Rattle.replay.proofs.words.word.Tie as tie
+
+abbrev Inv-loop : tie.InvT-loop
+Inv-loop body i x₀ k₀ x k = k ≤ 8
+
+abbrev μ-loop : tie.MeasureT-loop
+μ-loop body i x₀ k₀ x k = k
+
+pub word-spec : {M : Type 1} → statement M
+word-spec =
+    tie.close
+    (tie.spec
+    Inv-loop
+    μ-loop
+    (λ c. omega arith)
+    (λ c. omega arith)
+    (λ c. omega arith)
+    (λ c. omega arith)
+    (λ c. omega arith)
+    (λ c. omega arith)
+    (λ c κs. search needs)
+    (λ c. omega arith)
+    (λ c. omega arith)
+    (λ c. omega arith)
+    (λ c. search needs))

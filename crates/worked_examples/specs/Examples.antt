@@ -1,0 +1,56 @@
+-- The worked examples of document 01 that are marked P, each on the definition that the contracts cite. Definitions and the claim only.
+use Prim.Native.Nat.{ℕ}
+use mathlib.Core.Path.{_≡_}
+use mathlib.Core.Bool.{cond}
+use mathlib.Core.List.{List, [], _∷_, map}
+use lib.Dec.{eqb}
+use lib.Ieee.{Float, binary64, ofBits}
+use Rattle.numbers.specs.Rule.{tabulate}
+use Rattle.binary64.specs.Binary64.{f0, f1, m1}
+use Rattle.binary64.specs.Answer.{Answer, answered, refused}
+use Rattle.hex.specs.Shape as Hex
+use Rattle.prism.specs.Shape as Prism
+use Rattle.hex_iso.specs.Cut.{isoMask}
+use Rattle.hex_iso.specs.Position.{isoPosition}
+
+-- what an entry answers: floats or whole numbers
+pub data Said : Type 0 where
+  floats : Answer (List Float) → Said
+  number : Answer ℕ → Said
+
+-- the paper's number, what the definition gives, and what the paper says
+pub record Example : Type 0 where
+  pub p : ℕ
+  pub found : Said
+  pub paper : Said
+
+abbrev example : ℕ → Said → Said → Example
+example n a b = record { p = n; found = a; paper = b }
+
+-- one at place k of n, plus zero elsewhere
+abbrev oneAt : ℕ → ℕ → List Float
+oneAt n k = tabulate n (λ (j : ℕ). cond (eqb j k) f1 f0)
+
+-- 3 and -0.5
+abbrev three : Float
+three = ofBits binary64 0x4008_0000_0000_0000
+
+abbrev minusHalf : Float
+minusHalf = ofBits binary64 0xbfe0_0000_0000_0000
+
+abbrev pub examples : List Example
+examples =
+    -- "P1 Hex shape at (1,1,1): 1 at node 6, +0 elsewhere. P2 Prism at (0,0,1): 1 at node 3."
+    example 1 (floats (answered (Hex.shape (f1 ∷ f1 ∷ f1 ∷ [])))) (floats (answered (oneAt 8 6)))
+    ∷ example 2 (floats (answered (Prism.shape (f0 ∷ f0 ∷ f1 ∷ [])))) (floats (answered (oneAt 6 3)))
+    -- "P3 `ISO_EDGE` at 1 is 0x109; P4 at 17 is 0x99; P5 at 255 is 0."
+    ∷ example 3 (number (isoMask 1)) (number (answered 0x109))
+    ∷ example 4 (number (isoMask 17)) (number (answered 0x99))
+    ∷ example 5 (number (isoMask 255)) (number (answered 0))
+    -- "P11 Edge position, centre 0, half width 1, nodes 0 and 1, values -1 and 3: (-0.5, -1, -1)."
+    ∷ example 11 (floats (isoPosition (f0 ∷ f0 ∷ f0 ∷ []) f1 0 1 m1 three)) (floats (answered (minusHalf ∷ m1 ∷ m1 ∷ [])))
+    ∷ []
+
+-- "The P examples are one list with a single proved claim on the definitions"
+abbrev pub ExamplesHold : Type 0
+ExamplesHold = map (λ (e : Example). e .found) examples ≡ map (λ (e : Example). e .paper) examples
