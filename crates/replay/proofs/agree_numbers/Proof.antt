@@ -1,10 +1,10 @@
--- `replay::words::agree_numbers` is safe: each turn reads one number and one word. Assumes nothing.
+-- `replay::agree_numbers` is safe: each turn reads one number and one word. Assumes nothing.
 use Prim.Native.Nat.{_-_, _≤_}
 use native.Mathlib.Omega.{arith}
 use lib.ListN.{length}
 use borrow.Author.Needs.{needs}
-use Rattle.replay.proofs.words.agree_numbers.Statement.{statement}
-use Rattle.replay.proofs.words.agree_numbers.Tie as tie
+use Rattle.replay.proofs.agree_numbers.Statement.{statement}
+use Rattle.replay.proofs.agree_numbers.Tie as tie
 
 abbrev Inv-loop : tie.InvT-loop
 Inv-loop x w from same₀ i₀ same i = i ≤ length x

@@ -1,9 +1,9 @@
--- `replay::words::words` is safe: each turn stores one word. Assumes nothing.
+-- `replay::words` is safe: each turn stores one word. Assumes nothing.
 use Prim.Native.Nat.{_-_, _≤_}
 use native.Mathlib.Omega.{arith}
 use borrow.Author.Needs.{needs}
-use Rattle.replay.proofs.words.words.Statement.{statement}
-use Rattle.replay.proofs.words.words.Tie as tie
+use Rattle.replay.proofs.words.Statement.{statement}
+use Rattle.replay.proofs.words.Tie as tie
 
 abbrev Inv-loop : tie.InvT-loop
 Inv-loop body w₀ i₀ w i = i ≤ 160

@@ -1,9 +1,9 @@
--- `replay::words::word` is safe: what is shifted up leaves room for a byte. Assumes nothing.
+-- `replay::word` is safe: what is shifted up leaves room for a byte. Assumes nothing.
 use Prim.Native.Nat.{_≤_}
 use native.Mathlib.Omega.{arith}
 use borrow.Author.Needs.{needs}
-use Rattle.replay.proofs.words.word.Statement.{statement}
-use Rattle.replay.proofs.words.word.Tie as tie
+use Rattle.replay.proofs.word.Statement.{statement}
+use Rattle.replay.proofs.word.Tie as tie
 
 abbrev Inv-loop : tie.InvT-loop
 Inv-loop body i x₀ k₀ x k = k ≤ 8

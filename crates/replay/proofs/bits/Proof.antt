@@ -1,11 +1,11 @@
--- `replay::words::bits` is safe: a float that equals itself is no NaN. Assumes nothing.
+-- `replay::bits` is safe: a float that equals itself is no NaN. Assumes nothing.
 use borrow.Author.Needs.{needs}
 use mathlib.Core.Path.{_≡_, sym}
 use mathlib.Core.Bool.{true, not, true≢false}
 use lib.Dec.{T}
 use lib.Ieee.{Float, nan, inf, fin, eq, isNan}
-use Rattle.replay.proofs.words.bits.Statement.{statement}
-use Rattle.replay.proofs.words.bits.Tie as tie
+use Rattle.replay.proofs.bits.Statement.{statement}
+use Rattle.replay.proofs.bits.Tie as tie
 
 itself : (x : Float) → eq x x ≡ true → T (not (isNan x))
 unfolding eq isNan

@@ -1,11 +1,11 @@
--- `replay::words::read` is safe and keeps the length: each turn stores one float. Assumes nothing.
+-- `replay::read_numbers` is safe and keeps the length: each turn stores one number. Assumes nothing.
 use Prim.Native.Nat.{_-_, _≤_}
 use mathlib.Core.Path.{_≡_, refl}
 use native.Mathlib.Omega.{arith}
 use lib.ListN.{length, length-set}
 use borrow.Author.Needs.{needs}
-use Rattle.replay.proofs.words.read.Statement.{statement}
-use Rattle.replay.proofs.words.read.Tie as tie
+use Rattle.replay.proofs.read_numbers.Statement.{statement}
+use Rattle.replay.proofs.read_numbers.Tie as tie
 
 abbrev Inv-loop : tie.InvT-loop
 Inv-loop w from out₀ i₀ out i = (length out ≡ length out₀) × (i ≤ length out)
@@ -13,8 +13,8 @@ Inv-loop w from out₀ i₀ out i = (length out ≡ length out₀) × (i ≤ len
 abbrev μ-loop : tie.MeasureT-loop
 μ-loop w from out₀ i₀ out i = length out - i
 
-pub read-spec : {M : Type 1} → statement M
-read-spec =
+pub read-numbers-spec : {M : Type 1} → statement M
+read-numbers-spec =
     tie.close
     (tie.spec
     Inv-loop
