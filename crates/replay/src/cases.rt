@@ -299,8 +299,7 @@ fn prism_subdivide(w: &[u64; 192]) -> bool {
 }
 
 // Whether record number `function` is answered as it was.
-pub fn agrees(function: u8, w: &[u64; 192], outcome: u32, out: usize) -> bool
-{
+pub fn agrees(function: u8, w: &[u64; 192], outcome: u32, out: usize) -> bool {
     if out > 96 {
         return false;
     }

@@ -153,7 +153,6 @@ fn length_at(w: &[u64; 192], k: usize) -> usize
     if n < 72 { n as usize } else { 72 }
 }
 
-
 fn wide_byte(b: u8) -> usize
     ensures { λ r. ⌜ r < 256 ⌝ }
 {
