@@ -10,8 +10,9 @@ fn step_from(p: [f64; 24], at: Point) -> Step
     ensures { λ r. ⌜ stepTold r ≡ step p (coords at) ⌝ }
 {
     let pco = [at.x, at.y, at.z];
-    let pos = hex::image(p, pco);
-    let jac = hex::jacobian(p, pco);
+    let at_pco = hex::tangent(p, pco);
+    let pos = at_pco.image;
+    let jac = at_pco.jac;
     cell::newton_step(at, pos, jac)
 }
 

@@ -11,8 +11,9 @@ fn step_from(p: [f64; 18], at: Point) -> Step
     ensures { λ r. ⌜ stepTold r ≡ step p (coords at) ⌝ }
 {
     let pco = [at.x, at.y, at.z];
-    let pos = prism::image(p, pco);
-    let jac = prism::jacobian(p, pco);
+    let at_pco = prism::tangent(p, pco);
+    let pos = at_pco.image;
+    let jac = at_pco.jac;
     cell::newton_step(at, pos, jac)
 }
 

@@ -1,0 +1,369 @@
+"""What each addition answers, from document 01: the reference that the archive is compared with.
+
+A function gives (number, outputs): 0 and what a success writes, or the refusal's number and None.
+Python's floats are binary64 and each operation below is one IEEE operation, in the order of hex.rs
+and mat3_col_major.rs.
+"""
+
+import struct
+from functools import cached_property
+
+INFINITY = float("inf")
+LARGEST_FINITE = float.fromhex("0x1.fffffffffffffp+1023")
+SMALLEST_CORNER = 2.0**-100
+LARGEST_CORNER = 2.0**100
+
+HEX_SIGN = [(-1, -1, -1), (1, -1, -1), (1, 1, -1), (-1, 1, -1), (-1, -1, 1), (1, -1, 1), (1, 1, 1), (-1, 1, 1)]
+EDGE2NODE = [(0, 1), (1, 2), (2, 3), (3, 0), (4, 5), (5, 6), (6, 7), (7, 4), (0, 4), (1, 5), (2, 6), (3, 7)]
+IDX2NODE = [0, 3, 2, 1, 0, 1, 5, 4, 1, 2, 6, 5, 2, 3, 7, 6, 3, 0, 4, 7, 4, 5, 6, 7]
+FACE2NODE = [tuple(IDX2NODE[4 * f : 4 * f + 4]) for f in range(6)]
+
+MOST_NODES, MOST_CELLS, MOST_PROPOSALS, DEEPEST = 1024, 128, 256, 20
+
+# Demand 3 on a case that passes 3, 4 and 5.
+NO_DEMAND, MUST_ACCEPT, MUST_REFUSE, EITHER = 0, 1, 2, 3
+
+
+# ---- the float functions of the source ----
+
+
+def div(a, b):
+    """a / b, where Python would raise for a zero divisor."""
+    if b == 0.0:
+        if a == 0.0 or a != a:
+            return float("nan")
+        negative = struct.pack(">d", a)[0] >> 7 ^ struct.pack(">d", b)[0] >> 7
+        return -INFINITY if negative else INFINITY
+    return a / b
+
+
+def shapefunc(r0, r1, r2):
+    a0, a1, a2 = 1.0 - r0, 1.0 - r1, 1.0 - r2
+    b0, b1, b2 = 1.0 + r0, 1.0 + r1, 1.0 + r2
+    return (
+        0.125 * a0 * a1 * a2,
+        0.125 * b0 * a1 * a2,
+        0.125 * b0 * b1 * a2,
+        0.125 * a0 * b1 * a2,
+        0.125 * a0 * a1 * b2,
+        0.125 * b0 * a1 * b2,
+        0.125 * b0 * b1 * b2,
+        0.125 * a0 * b1 * b2,
+    )
+
+
+def dndr(r0, r1, r2):
+    """The slopes along r0, along r1 and along r2, eight each."""
+    a0, a1, a2 = 1.0 - r0, 1.0 - r1, 1.0 - r2
+    b0, b1, b2 = 1.0 + r0, 1.0 + r1, 1.0 + r2
+    n, p = -0.125, 0.125
+    return (
+        (n * a1 * a2, p * a1 * a2, p * b1 * a2, n * b1 * a2, n * a1 * b2, p * a1 * b2, p * b1 * b2, n * b1 * b2),
+        (n * a0 * a2, n * b0 * a2, p * b0 * a2, p * a0 * a2, n * a0 * b2, n * b0 * b2, p * b0 * b2, p * a0 * b2),
+        (n * a0 * a1, n * b0 * a1, n * b0 * b1, n * a0 * b1, p * a0 * a1, p * b0 * a1, p * b0 * b1, p * a0 * b1),
+    )
+
+
+def image_on(n, p):
+    """Eight products, added in node order."""
+    return (
+        n[0] * p[0] + n[1] * p[1] + n[2] * p[2] + n[3] * p[3]
+        + n[4] * p[4] + n[5] * p[5] + n[6] * p[6] + n[7] * p[7]
+    )  # fmt: skip
+
+
+def slope_on(p, d):
+    """One entry of dxdr: from plus zero, eight products are added."""
+    return (
+        0.0 + p[0] * d[0] + p[1] * d[1] + p[2] * d[2] + p[3] * d[3]
+        + p[4] * d[4] + p[5] * d[5] + p[6] * d[6] + p[7] * d[7]
+    )  # fmt: skip
+
+
+def transpose(m):
+    return (m[0], m[3], m[6], m[1], m[4], m[7], m[2], m[5], m[8])
+
+
+def mult_vec(a, b):
+    return (
+        a[0] * b[0] + a[3] * b[1] + a[6] * b[2],
+        a[1] * b[0] + a[4] * b[1] + a[7] * b[2],
+        a[2] * b[0] + a[5] * b[1] + a[8] * b[2],
+    )
+
+
+def try_inverse(b):
+    b0, b1, b2, b3, b4, b5, b6, b7, b8 = b
+    det = b0 * b4 * b8 + b3 * b7 * b2 + b6 * b1 * b5 - b0 * b7 * b5 - b6 * b4 * b2 - b3 * b1 * b8
+    if det == 0.0:
+        return None
+    inv = div(1.0, det)
+    return (
+        inv * (b4 * b8 - b5 * b7),
+        inv * (b2 * b7 - b1 * b8),
+        inv * (b1 * b5 - b2 * b4),
+        inv * (b5 * b6 - b3 * b8),
+        inv * (b0 * b8 - b2 * b6),
+        inv * (b2 * b3 - b0 * b5),
+        inv * (b3 * b7 - b4 * b6),
+        inv * (b1 * b6 - b0 * b7),
+        inv * (b0 * b4 - b1 * b3),
+    )
+
+
+def newton(x, y, z):
+    """(0, place), or (1, None) for a zero determinant, or (2, None) when the last place is not inside."""
+    r0 = r1 = r2 = 0.0
+    for _ in range(20):
+        n = shapefunc(r0, r1, r2)
+        position = (image_on(n, x), image_on(n, y), image_on(n, z))
+        d0, d1, d2 = dndr(r0, r1, r2)
+        rows = (
+            slope_on(x, d0), slope_on(x, d1), slope_on(x, d2),
+            slope_on(y, d0), slope_on(y, d1), slope_on(y, d2),
+            slope_on(z, d0), slope_on(z, d1), slope_on(z, d2),
+        )  # fmt: skip
+        inverse = try_inverse(transpose(rows))
+        if inverse is None:
+            return 1, None
+        s0, s1, s2 = mult_vec(inverse, position)
+        r0, r1, r2 = r0 - s0, r1 - s1, r2 - s2
+    if inside(r0, r1, r2):
+        return 0, (r0, r1, r2)
+    return 2, None
+
+
+# ---- the distance check ----
+
+
+def inside(r0, r1, r2):
+    return -1.0 <= r0 <= 1.0 and -1.0 <= r1 <= 1.0 and -1.0 <= r2 <= 1.0
+
+
+def good_corner(c):
+    return c == 0.0 or SMALLEST_CORNER <= abs(c) <= LARGEST_CORNER
+
+
+def good_tolerance(t):
+    return 0.0 <= t <= LARGEST_FINITE
+
+
+class Cell:
+    """Eight corners: 24 floats, corner by corner, x y z. What depends on them alone is worked out once."""
+
+    def __init__(self, corners):
+        self.corners = tuple(corners)
+        self.axes = (self.corners[0::3], self.corners[1::3], self.corners[2::3])
+
+    @cached_property
+    def good(self):
+        return all(good_corner(c) for c in self.corners)
+
+    @cached_property
+    def located(self):
+        return newton(*self.axes)
+
+    @cached_property
+    def whole(self):
+        """On each axis: the corners as whole numbers, and the power of two that they are scaled by."""
+        return tuple(scaled(p) for p in self.axes)
+
+
+def scaled(floats):
+    """Whole numbers and s: each float is its whole number / 2^s, exactly."""
+    ratios = [f.as_integer_ratio() for f in floats]
+    s = max(d.bit_length() for _, d in ratios) - 1
+    return [n << (s - d.bit_length() + 1) for n, d in ratios], s
+
+
+class Place:
+    """A place in a cell: the rounded image, and the exact one with the bound of demand 3."""
+
+    def __init__(self, cell, at):
+        self.cell = cell
+        self.at = tuple(at)
+
+    @cached_property
+    def image(self):
+        n = shapefunc(*self.at)
+        return tuple(image_on(n, p) for p in self.cell.axes)
+
+    @cached_property
+    def exact(self):
+        """On each axis (x, e, s): the exact image is x / 2^s and the bound 14 M / 2^53 is e / 2^s."""
+        (r0, r1, r2), s = scaled(self.at)
+        one = 1 << s
+        factors = [(one - r, one + r) for r in (r0, r1, r2)]
+        weights = [factors[0][i > 0] * factors[1][j > 0] * factors[2][k > 0] for i, j, k in HEX_SIGN]
+        found = []
+        for corners, c in self.cell.whole:
+            x = sum(w * p for w, p in zip(weights, corners))
+            largest = max(abs(p) for p in corners)
+            # x / 2^(3 s + 3 + c) and 14 largest / 2^(c + 53), both over 2^(3 s + 53 + c)
+            found.append((x << 50, 14 * largest << 3 * s, 3 * s + 53 + c))
+        return tuple(found)
+
+    def accepts(self, tolerance):
+        return all(v <= tolerance and -v <= tolerance for v in self.image)
+
+    def demand(self, tolerance):
+        """What demand 3 says of this tolerance, in whole numbers."""
+        t, d = tolerance.as_integer_ratio()
+        shift = d.bit_length() - 1
+        accept = True
+        for x, e, s in self.exact:
+            up = max(shift - s, 0)
+            size, bound, limit = abs(x) << up, e << up, t << (s + up - shift)
+            if size > limit + bound:
+                return MUST_REFUSE
+            if size > limit - bound:
+                accept = False
+        return MUST_ACCEPT if accept else EITHER
+
+
+def check(place, tolerance):
+    """The number, and what demand 3 says."""
+    if not place.cell.good:
+        return 3, NO_DEMAND
+    if not good_tolerance(tolerance):
+        return 4, NO_DEMAND
+    if not inside(*place.at):
+        return 5, NO_DEMAND
+    return judged(place, tolerance)
+
+
+def judged(place, tolerance):
+    """0 or 6 by the rounded image; demand 3 is a theorem about it, and is looked at here each time."""
+    accepted, demand = place.accepts(tolerance), place.demand(tolerance)
+    if demand == (MUST_REFUSE if accepted else MUST_ACCEPT):
+        raise AssertionError(f"demand 3 fails: {place.cell.corners} {place.at} {tolerance}")
+    return (0 if accepted else 6), demand
+
+
+def locate_checked(cell, tolerance):
+    """(number, coordinates), and what demand 3 says of the place that Newton found."""
+    if not cell.good:
+        return (3, None), NO_DEMAND
+    if not good_tolerance(tolerance):
+        return (4, None), NO_DEMAND
+    number, at = cell.located
+    if number != 0:
+        return (number, None), NO_DEMAND
+    number, demand = judged(Place(cell, at), tolerance)
+    return (number, at if number == 0 else None), demand
+
+
+def check_proposals(cell, records, room):
+    """Records are (x, y, z, tolerance). Outputs: how many are accepted, and a number for each record."""
+    if len(records) > MOST_PROPOSALS:
+        return 7, None
+    if room < len(records):
+        return 8, None
+    numbers = []
+    for x, y, z, tolerance in records:
+        if not cell.good:
+            numbers.append(3)
+        elif not good_tolerance(tolerance):
+            numbers.append(4)
+        elif not inside(x, y, z):
+            numbers.append(5)
+        else:
+            numbers.append(0 if Place(cell, (x, y, z)).accepts(tolerance) else 6)
+    return 0, (numbers.count(0), numbers)
+
+
+# ---- the mesh ----
+
+
+def slots():
+    """For child i and corner k, at 8 i + k: which of the 27 (corners, edges, faces, centre) it names.
+
+    The geometric rule: the one that stands at (sign i + sign k) / 2, here doubled twice over.
+    """
+    groups = [(k,) for k in range(8)] + EDGE2NODE + FACE2NODE + [tuple(range(8))]
+    stands = {}
+    for slot, nodes in enumerate(groups):
+        middle = tuple(8 // len(nodes) * sum(HEX_SIGN[k][axis] for k in nodes) for axis in range(3))
+        stands[middle] = slot
+    return [
+        stands[tuple(4 * (HEX_SIGN[i][axis] + HEX_SIGN[k][axis]) for axis in range(3))]
+        for i in range(8)
+        for k in range(8)
+    ]
+
+
+SLOTS = slots()
+
+
+def refused_cell(n, cell):
+    """0, 9 or 10."""
+    if max(cell) >= n:
+        return 9
+    if len(set(cell)) < 8:
+        return 10
+    return 0
+
+
+def refine(n, numbers, room):
+    """Outputs: the next free number, and 64 numbers for each cell."""
+    if n > MOST_NODES or len(numbers) > 8 * MOST_CELLS:
+        return 7, None
+    if len(numbers) % 8 != 0 or room < 8 * len(numbers):
+        return 8, None
+    cells = [tuple(numbers[i : i + 8]) for i in range(0, len(numbers), 8)]
+    for cell in cells:
+        number = refused_cell(n, cell)
+        if number != 0:
+            return number, None
+    given = {}
+    free = n
+    children = []
+    for cell in cells:
+        named = list(cell)
+        for ends in EDGE2NODE + FACE2NODE:
+            key = frozenset([cell[k] for k in ends])
+            number = given.setdefault(key, free)
+            if number == free:
+                free += 1
+            named.append(number)
+        named.append(free)
+        free += 1
+        children.extend([named[slot] for slot in SLOTS])
+    return 0, (free, children)
+
+
+def descendant(path, corner):
+    """Outputs: the place on three axes, in units of 2^-d."""
+    d = len(path)
+    if d > DEEPEST:
+        return 7, None
+    if any(octant > 7 for octant in path) or corner > 7:
+        return 9, None
+    return 0, tuple(
+        sum(HEX_SIGN[path[j - 1]][axis] * 2 ** (d - j) for j in range(1, d + 1)) + HEX_SIGN[corner][axis]
+        for axis in range(3)
+    )
+
+
+def hxm_read(data, node_room, cell_room):
+    """Outputs: node count, cell count, 3 patterns of 64 bits a node, 8 numbers a cell."""
+    if len(data) < 13:
+        return 13, None
+    if data[0:3] != b"HXM":
+        return 11, None
+    version, nodes, cells = struct.unpack_from("<HII", data, 3)
+    if version != 1:
+        return 12, None
+    if nodes > MOST_NODES or cells > MOST_CELLS:
+        return 7, None
+    if len(data) != 13 + 24 * nodes + 32 * cells:
+        return 13, None
+    patterns = struct.unpack_from(f"<{3 * nodes}Q", data, 13)
+    numbers = struct.unpack_from(f"<{8 * cells}I", data, 13 + 24 * nodes)
+    for i in range(0, len(numbers), 8):
+        number = refused_cell(nodes, numbers[i : i + 8])
+        if number != 0:
+            return number, None
+    if node_room < 3 * nodes or cell_room < 8 * cells:
+        return 8, None
+    return 0, (nodes, cells, patterns, numbers)
