@@ -28,5 +28,11 @@ int main(void) {
         around(rib, 6, probes[n], corners);
         say("rib", probes[n], isn_prism_parametric_coord_for_origin(corners, at), at);
     }
+    double found[3];
+    around(block, 8, probes[0], corners);
+    uint32_t answer = isn_hex_locate_checked(corners, 1e-9, found);
+    printf("block, probe checked to 1e-9: %s\n", answer == 0 ? "accepted" : "refused");
+    found[0] += 1e-6;
+    printf("block, a place 1e-6 beside it: refused %u, too far from the probe\n", (unsigned)isn_hex_check(corners, found, 1e-9));
     return 0;
 }

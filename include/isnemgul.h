@@ -80,6 +80,16 @@ uint32_t isn_hex_iso_mask(uint32_t index, uint32_t mask[1]);
 uint32_t isn_hex_subdivide(const uint32_t corner[8], const uint32_t edge[12], const uint32_t quad[6], uint32_t center,
                            uint32_t out[64]);
 
+/* Is the image of the place at, the sum of shape value times corner, within the tolerance of the probe on every axis? Answers 0 where it is.
+ * Refusals: 3 a corner coordinate is NaN, infinite, or not zero and of a size below 2^-100 or above 2^100; 4 the tolerance is NaN, infinite or
+ * below zero; 5 a coordinate of the place is not in [-1,1]; 6 too far on some axis. With M the largest corner size on an axis and
+ * e = 14 M / 2^53: accepted, the exact image is at most tolerance + e from the probe; an exact image at most tolerance - e is accepted. */
+uint32_t isn_hex_check(const double corners[24], const double at[3], double tolerance);
+
+/* at = the place that the locator finds, if its image is within the tolerance of the probe. Refusals: 3 and 4 as in isn_hex_check, then 1 or 2
+ * as in the locator, then 6 too far. */
+uint32_t isn_hex_locate_checked(const double corners[24], double tolerance, double at[3]);
+
 /* Prism. A place is r >= 0, s >= 0, r + s <= 1 in the triangle, t in [0,1] upward. */
 
 /* out = the six shape values at pco. Answers 0. */

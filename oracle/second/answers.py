@@ -69,7 +69,7 @@ def image_on(n, p):
     return (
         n[0] * p[0] + n[1] * p[1] + n[2] * p[2] + n[3] * p[3]
         + n[4] * p[4] + n[5] * p[5] + n[6] * p[6] + n[7] * p[7]
-    )  # fmt: skip
+    )
 
 
 def slope_on(p, d):
@@ -77,7 +77,7 @@ def slope_on(p, d):
     return (
         0.0 + p[0] * d[0] + p[1] * d[1] + p[2] * d[2] + p[3] * d[3]
         + p[4] * d[4] + p[5] * d[5] + p[6] * d[6] + p[7] * d[7]
-    )  # fmt: skip
+    )
 
 
 def transpose(m):
@@ -122,7 +122,7 @@ def newton(x, y, z):
             slope_on(x, d0), slope_on(x, d1), slope_on(x, d2),
             slope_on(y, d0), slope_on(y, d1), slope_on(y, d2),
             slope_on(z, d0), slope_on(z, d1), slope_on(z, d2),
-        )  # fmt: skip
+        )
         inverse = try_inverse(transpose(rows))
         if inverse is None:
             return 1, None

@@ -20,3 +20,8 @@ LosesNothing {A = A} f = (x y : A) → f x ≡ f y → x ≡ y
 abbrev pub Wrote : {A : Type 0} → Answer A → ℕ → A → A → Type 0
 Wrote (answered a) r old new = (r ≡ 0) × (new ≡ a)
 Wrote (refused n) r old new = (r ≡ n) × (new ≡ old)
+
+-- what a function that has no buffer returns
+abbrev pub numberOf : {A : Type 0} → Answer A → ℕ
+numberOf (answered a) = 0
+numberOf (refused n) = n

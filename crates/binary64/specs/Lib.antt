@@ -1,2 +1,3 @@
 pub mod Binary64
 pub mod Answer
+pub mod Exact

@@ -17,7 +17,7 @@ fn step_from(p: [f64; 24], at: Point) -> Step
 }
 
 // Whether x lies in [-1, 1]. A NaN does not.
-fn within_one(x: f64) -> bool
+pub fn within_one(x: f64) -> bool
     ensures { λ r. ⌜ r ≡ within x ⌝ }
 {
     let one = 1.0;

@@ -2,13 +2,16 @@
 // and writes the answer. It returns 0 where it answered, and otherwise a refusal's number, and then no lent memory has changed: `Wrote`.
 use cell::Located;
 use cell::Measured;
+use cell::Point;
 use hex_gradient::Outcome;
 use hex_gradient::WeightedGradient;
 use hex_iso::IsoMask;
 use hex_iso::IsoPosition;
 use mat3_col_major::Inverse;
+use probe::Checked;
+use probe::Verdict;
 ghost use mathlib.Core.Path.{_≡_};
-ghost use Rattle.binary64.specs.Answer.{Wrote};
+ghost use Rattle.binary64.specs.Answer.{Wrote, numberOf};
 ghost use Rattle.mat3_col_major.specs.Mat3.{transposed, product, det, inverse, told as inverseTold};
 ghost use Rattle.cell.specs.Newton.{told};
 ghost use Rattle.cell.specs.Points.{told as volumeTold};
@@ -19,6 +22,7 @@ ghost use Rattle.hex_volume.specs.Volume.{volume as hexVolume};
 ghost use Rattle.hex_iso.specs.Cut.{isoMask, maskTold};
 ghost use Rattle.hex_iso.specs.Position.{isoPosition, isoEdges, positionTold};
 ghost use Rattle.hex_children.specs.Children.{children as hexChildren};
+ghost use Rattle.probe.specs.Check.{checked, locatedChecked, told as verdictTold, placeTold};
 ghost use Rattle.prism.specs.Shape as Prism;
 ghost use Rattle.prism_locate.specs.Locate.{located as prismLocated};
 ghost use Rattle.prism_volume.specs.Volume.{volumeAnswer as prismVolume};
@@ -104,6 +108,27 @@ fn put_gradient(found: WeightedGradient, dndx: &mut [f64; 24], detwei: &mut f64)
             0
         }
         Outcome::Refused(n) => n,
+    }
+}
+
+fn put_verdict(found: Verdict) -> u32
+    ensures { λ r. ⌜ r ≡ numberOf (verdictTold found) ⌝ }
+{
+    match found {
+        Verdict::Accepted => 0,
+        Verdict::Refused(n) => n,
+    }
+}
+
+fn put_checked(found: Checked, at: &mut [f64; 3]) -> u32
+    ensures { λ r. ⌜ Wrote (placeTold found) r (now (at .entry)) (now (at .exit)) ⌝ }
+{
+    match found {
+        Checked::Inside(r, s, t) => {
+            *at = [r, s, t];
+            0
+        }
+        Checked::Refused(n) => n,
     }
 }
 
@@ -284,6 +309,29 @@ pub extern "C" fn isn_hex_subdivide(
 {
     *out = hex_children::subdivide(*corner, *edge, *quad, center);
     0
+}
+
+#[no_mangle]
+pub extern "C" fn isn_hex_check(corners: &[f64; 24], at: &[f64; 3], tolerance: f64) -> u32
+    ensures { λ r. ⌜ r ≡ numberOf (checked (now (corners .entry)) (now (at .entry)) tolerance) ⌝ }
+{
+    let place = Point {
+        x: at[0],
+        y: at[1],
+        z: at[2],
+    };
+    put_verdict(probe::check(*corners, place, tolerance))
+}
+
+#[no_mangle]
+pub extern "C" fn isn_hex_locate_checked(
+    corners: &[f64; 24],
+    tolerance: f64,
+    at: &mut [f64; 3],
+) -> u32
+    ensures { λ r. ⌜ Wrote (locatedChecked (now (corners .entry)) tolerance) r (now (at .entry)) (now (at .exit)) ⌝ }
+{
+    put_checked(probe::locate_checked(*corners, tolerance), at)
 }
 
 #[no_mangle]

@@ -1,7 +1,8 @@
 -- Lists by rule. Assumes nothing.
 use Prim.Native.Nat.{ℕ, zero, suc, _<_}
 use native.Mathlib.Nat.{le-of-suc-le-suc, not-suc-le-zero}
-use mathlib.Core.Path.{_≡_}
+use mathlib.Core.Path.{_≡_, refl}
+use lib.ListN.{getD}
 use Rattle.numbers.specs.Rule.{tabulate}
 
 -- two rules that give the same list are the same at each index: so a rule is proved at all of them by one computation
@@ -9,3 +10,9 @@ pub tabulate-same {ℓ} : {A : Type ℓ} (n : ℕ) (f g : ℕ → A) → tabulat
 tabulate-same zero f g e k h = absurd (not-suc-le-zero h)
 tabulate-same (suc n) f g e zero h = cc
 tabulate-same (suc n) f g e (suc k) h = tabulate-same n (λ (i : ℕ). f (suc i)) (λ (i : ℕ). g (suc i)) (cc) k (le-of-suc-le-suc h)
+
+-- what stands at an index is what the rule says
+pub tabulate-at {ℓ} : {A : Type ℓ} (n : ℕ) (f : ℕ → A) (d : A) (k : ℕ) → k < n → getD (tabulate n f) k d ≡ f k
+tabulate-at zero f d k h = absurd (not-suc-le-zero h)
+tabulate-at (suc n) f d zero h = refl
+tabulate-at (suc n) f d (suc k) h = tabulate-at n (λ (i : ℕ). f (suc i)) d k (le-of-suc-le-suc h)

@@ -1,6 +1,7 @@
 // Document 01's worked examples that are run and not proved. stdout holds what they have to print.
 use cell::Located;
 use libc::STDOUT_FILENO;
+use probe::Checked;
 
 // The box from x0 to x1, y0 to y1 and z0 to z1.
 fn corners(x0: f64, x1: f64, y0: f64, y1: f64, z0: f64, z1: f64) -> [f64; 24] {
@@ -52,6 +53,13 @@ fn say_located(found: Located) {
     }
 }
 
+fn say_checked(found: Checked) {
+    match found {
+        Checked::Inside(r, s, t) => say_located(Located::Inside(r, s, t)),
+        Checked::Refused(n) => say_refused(n as u64),
+    }
+}
+
 fn main() {
     io::write_all(STDOUT_FILENO, b"cube [-2,2]: ");
     say_located(hex_locate::parametric_coord_for_origin(corners(-2.0, 2.0, -2.0, 2.0, -2.0, 2.0)));
@@ -62,4 +70,12 @@ fn main() {
     io::write_all(STDOUT_FILENO, b"a NaN corner: ");
     let nan = 0.0 / 0.0;
     say_located(hex_locate::parametric_coord_for_origin(corners(nan, 2.0, -2.0, 2.0, -2.0, 2.0)));
+    io::write_all(STDOUT_FILENO, b"checked, with T = 1: ");
+    say_checked(probe::locate_checked(corners(-2.0, 2.0, -2.0, 2.0, -2.0, 2.0), 1.0));
+    io::write_all(STDOUT_FILENO, b"checked, x in [3,7]: ");
+    say_checked(probe::locate_checked(corners(3.0, 7.0, -1.0, 1.0, -1.0, 1.0), 1.0));
+    io::write_all(STDOUT_FILENO, b"checked, all corners (1,1,1): ");
+    say_checked(probe::locate_checked([1.0; 24], 1.0));
+    io::write_all(STDOUT_FILENO, b"checked, a NaN corner: ");
+    say_checked(probe::locate_checked(corners(nan, 2.0, -2.0, 2.0, -2.0, 2.0), 1.0));
 }

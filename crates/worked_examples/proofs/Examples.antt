@@ -1,9 +1,11 @@
 -- The worked examples hold: both sides compute to the same list. Assumes nothing.
 use mathlib.Core.Path.{refl}
-use lib.Ieee.{add, sub, mul, div, neg, ofBits}
+use lib.Ieee.{add, sub, mul, div, neg, ofBits, le, lt, eq}
+use Rattle.hex.specs.Shape.{imageAt}
 use Rattle.hex_iso.specs.Cut.{maskOf}
+use Rattle.probe.specs.Check.{goodCorners, checked}
 use Rattle.worked_examples.specs.Examples.{ExamplesHold}
 
 pub examples-hold : ExamplesHold
-unfolding add sub mul div neg ofBits maskOf
+unfolding add sub mul div neg ofBits le lt eq maskOf imageAt goodCorners checked
 examples-hold = refl

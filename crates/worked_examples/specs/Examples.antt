@@ -5,18 +5,22 @@ use mathlib.Core.Bool.{cond}
 use mathlib.Core.List.{List, [], _∷_, map}
 use lib.Dec.{eqb}
 use lib.Ieee.{Float, binary64, ofBits}
-use Rattle.numbers.specs.Rule.{tabulate}
+use lib.ListN.{set}
+use Rattle.numbers.specs.Rule.{tabulate, grid}
 use Rattle.binary64.specs.Binary64.{f0, f1, m1}
 use Rattle.binary64.specs.Answer.{Answer, answered, refused}
+use Rattle.hex.specs.Cube.{upper}
 use Rattle.hex.specs.Shape as Hex
 use Rattle.prism.specs.Shape as Prism
 use Rattle.hex_iso.specs.Cut.{isoMask}
 use Rattle.hex_iso.specs.Position.{isoPosition}
+use Rattle.probe.specs.Check.{checked}
 
--- what an entry answers: floats or whole numbers
+-- what an entry answers: floats, a whole number, or an acceptance
 pub data Said : Type 0 where
   floats : Answer (List Float) → Said
   number : Answer ℕ → Said
+  verdict : Answer (Unit {0}) → Said
 
 -- the paper's number, what the definition gives, and what the paper says
 pub record Example : Type 0 where
@@ -38,6 +42,41 @@ three = ofBits binary64 0x4008_0000_0000_0000
 abbrev minusHalf : Float
 minusHalf = ofBits binary64 0xbfe0_0000_0000_0000
 
+-- 2, -2, 0.5, 1 + 2^-52, 2^100, 2^-101 and minus zero
+abbrev two : Float
+two = ofBits binary64 0x4000_0000_0000_0000
+
+abbrev minusTwo : Float
+minusTwo = ofBits binary64 0xc000_0000_0000_0000
+
+abbrev half : Float
+half = ofBits binary64 0x3fe0_0000_0000_0000
+
+abbrev pastOne : Float
+pastOne = ofBits binary64 0x3ff0_0000_0000_0001
+
+abbrev most : Float
+most = ofBits binary64 0x4630_0000_0000_0000
+
+abbrev tooSmall : Float
+tooSmall = ofBits binary64 0x39a0_0000_0000_0000
+
+abbrev minusZero : Float
+minusZero = ofBits binary64 0x8000_0000_0000_0000
+
+-- the cube [-2,2], and the same with another first coordinate of corner 0
+abbrev cube : List Float
+cube = grid 8 3 (λ (k i : ℕ). cond (upper k i) two minusTwo)
+
+abbrev cubeWith : Float → List Float
+cubeWith x = set cube 0 x
+
+abbrev at : Float → List Float
+at x = x ∷ f0 ∷ f0 ∷ []
+
+abbrev accepted : Said
+accepted = verdict (answered tt)
+
 abbrev pub examples : List Example
 examples =
     -- "P1 Hex shape at (1,1,1): 1 at node 6, +0 elsewhere. P2 Prism at (0,0,1): 1 at node 3."
@@ -47,6 +86,15 @@ examples =
     ∷ example 3 (number (isoMask 1)) (number (answered 0x109))
     ∷ example 4 (number (isoMask 17)) (number (answered 0x99))
     ∷ example 5 (number (isoMask 255)) (number (answered 0))
+    -- "P6 Cube [-2,2]: coordinate (0.5,0,0) with T = 1 accepted; P7 T = 0.5 gives 6. P8 First coordinate 1 + 2^-52 gives 5. P9 Corner
+    -- 2^100 passes 3, and P10 2^-101 gives 3; minus zero passes", as a corner and as a tolerance.
+    ∷ example 6 (verdict (checked cube (at half) f1)) accepted
+    ∷ example 7 (verdict (checked cube (at half) half)) (verdict (refused 6))
+    ∷ example 8 (verdict (checked cube (at pastOne) f1)) (verdict (refused 5))
+    ∷ example 9 (verdict (checked (cubeWith most) (at f0) most)) accepted
+    ∷ example 10 (verdict (checked (cubeWith tooSmall) (at f0) f1)) (verdict (refused 3))
+    ∷ example 10 (verdict (checked (cubeWith minusZero) (at f0) f1)) accepted
+    ∷ example 10 (verdict (checked cube (at f0) minusZero)) accepted
     -- "P11 Edge position, centre 0, half width 1, nodes 0 and 1, values -1 and 3: (-0.5, -1, -1)."
     ∷ example 11 (floats (isoPosition (f0 ∷ f0 ∷ f0 ∷ []) f1 0 1 m1 three)) (floats (answered (minusHalf ∷ m1 ∷ m1 ∷ [])))
     ∷ []

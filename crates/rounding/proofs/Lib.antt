@@ -1,0 +1,14 @@
+pub mod Within
+pub mod Nearest
+pub mod Units
+pub mod Round
+pub mod Add
+pub mod Mul
+pub mod Sum
+pub mod Weight
+pub mod Products
+pub mod Order
+pub mod Factor
+pub mod Exact
+pub mod Accept
+pub mod Arguments

@@ -1,0 +1,45 @@
+"""The worked examples of document 01 on the additions, with the numbers as printed there: looked at on every run."""
+
+import struct
+
+from answers import HEX_SIGN, Cell, Place, check, descendant, hxm_read, locate_checked, refine
+
+CHILDREN = """
+0 8 20 11 16 21 26 24
+8 1 9 20 21 17 22 26
+20 9 2 10 26 22 18 23
+11 20 10 3 24 26 23 19
+16 21 26 24 4 12 25 15
+21 17 22 26 12 5 13 25
+26 22 18 23 25 13 6 14
+24 26 23 19 15 25 14 7
+"""
+
+
+def hold():
+    cube = [2.0 * s for signs in HEX_SIGN for s in signs]
+    checked = lambda corners, at, tolerance: check(Place(Cell(corners), at), tolerance)[0]
+    with_first = lambda value: [value] + cube[1:]
+    assert checked(cube, (0.5, 0.0, 0.0), 1.0) == 0  # P6
+    assert checked(cube, (0.5, 0.0, 0.0), 0.5) == 6  # P7
+    assert checked(cube, (1 + 2.0**-52, 0.0, 0.0), 1.0) == 5  # P8
+    assert checked(with_first(2.0**100), (0.0, 0.0, 0.0), 1.0) != 3  # P9
+    assert checked(with_first(2.0**-101), (0.0, 0.0, 0.0), 1.0) == 3  # P10
+    assert checked(with_first(-0.0), (0.0, 0.0, 0.0), 1.0) == 0
+    assert descendant([6], 0) == (0, (0, 0, 0)) and descendant([], 1) == (0, (1, -1, -1))  # P12
+
+    located = lambda corners: locate_checked(Cell(corners), 0.0)[0]
+    far = [v for x, y, z in HEX_SIGN for v in (5.0 + 2.0 * x, float(y), float(z))]
+    assert located(cube) == (0, (0.0, 0.0, 0.0))
+    assert located(far) == (2, None)
+    assert located([1.0] * 24) == (1, None)
+    assert located(with_first(float("nan"))) == (3, None)
+
+    number, (free, children) = refine(12, [*range(8), 1, 8, 9, 2, 5, 11, 10, 6], 128)
+    assert (number, free) == (0, 45)
+    # the shared face (1,2,6,5): child 1, corner 6 of the first cell, child 0, corner 7 of the second
+    assert children[8 * 1 + 6] == 26 and children[64 + 8 * 0 + 7] == 26
+    data = b"HXM" + struct.pack("<HII24Q8I", 1, 8, 1, *[0] * 24, *range(8))
+    number, (nodes, cells, _, numbers) = hxm_read(data, 24, 8)
+    assert (number, nodes, cells) == (0, 8, 1)
+    assert refine(nodes, numbers, 64) == (0, (27, [int(word) for word in CHILDREN.split()]))

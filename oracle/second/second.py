@@ -1,0 +1,126 @@
+"""The second program: cases with the answers of document 01, for the driver or as a stored sample.
+
+    second.py --cases N --seed S     the driver's stream on standard output: for each function all boundary
+                                     cases, then random ones until there are N
+    second.py --sample PATH          the stored sample
+    second.py --show NAME NUMBER     one case of the stream in words, with --cases and --seed as there
+    --only NAME[,NAME..]             these functions alone
+"""
+
+import argparse
+import itertools
+import random
+import sys
+
+sys.dont_write_bytecode = True
+
+import cells
+import examples
+import meshes
+import records
+
+BOUNDARY = {
+    "check": cells.boundary_check,
+    "locate_checked": cells.boundary_locate,
+    "check_proposals": cells.boundary_proposals,
+    "refine": meshes.boundary_refine,
+    "descendant": meshes.boundary_descendant,
+    "hxm_read": meshes.boundary_files,
+}
+RANDOM = {
+    "check": cells.random_check,
+    "locate_checked": cells.random_locate,
+    "check_proposals": cells.random_proposals,
+    "refine": meshes.random_refine,
+    "descendant": meshes.random_descendant,
+    "hxm_read": meshes.random_files,
+}
+
+SAMPLE_SEED = "sample 1"
+# How many cases of a function a sample takes for each tag and number, and in all; how many are looked through.
+SAMPLE_EACH = {"check": 6, "locate_checked": 4, "check_proposals": 8, "refine": 8, "descendant": 6, "hxm_read": 4}
+SAMPLE_MOST = {"check": 215, "locate_checked": 195, "check_proposals": 45, "refine": 80, "descendant": 35, "hxm_read": 80}
+SAMPLE_FROM = {"check": 9000, "locate_checked": 6000, "check_proposals": 2000, "refine": 8000, "descendant": 12000, "hxm_read": 20000}
+
+
+def cases(name, count, seed):
+    """All boundary cases, then random ones until there are `count`."""
+    rng = random.Random(f"{seed} {name}")
+    boundary = list(BOUNDARY[name]())
+    yield from boundary
+    yield from itertools.islice(RANDOM[name](rng), max(count - len(boundary), 0))
+
+
+def stream(names, count, seed, out):
+    out.write(records.STREAM_MARK)
+    written = 0
+    for name in names:
+        for function, _, arguments in cases(name, count, seed):
+            out.write(records.stream_record(function, arguments, records.answer(function, arguments)))
+            written += 1
+    out.write(records.stream_end(written))
+
+
+def sample(names, path):
+    with open(path, "wb") as out:
+        for name in names:
+            for record in sample_of(name):
+                out.write(record)
+
+
+def sample_of(name):
+    """The examples, and of each tag and number a few cases, spread over all that there are."""
+    rng = random.Random(f"{SAMPLE_SEED} {name}")
+    kinds = {}
+    for position, (function, tag, arguments) in enumerate(cases(name, SAMPLE_FROM[name], SAMPLE_SEED)):
+        answered = records.answer(function, arguments)
+        words = records.sample_words(function, arguments, answered)
+        if words is not None:
+            number = answered[0]
+            kinds.setdefault((tag, number), []).append((position, records.sample_record(function, number, words)))
+    taken = []
+    for (tag, _), found in kinds.items():
+        few = min(len(found), SAMPLE_EACH[name])
+        taken += [(0, *f) for f in found] if tag == "example" else [(1 + i, *f) for i, f in enumerate(rng.sample(found, few))]
+    # one of every kind before a second of any
+    taken.sort(key=lambda t: t[0])
+    kept = taken[: SAMPLE_MOST[name]]
+    return [record for _, _, record in sorted(kept, key=lambda t: t[1])]
+
+
+def show(name, number, count, seed):
+    function, tag, arguments = next(itertools.islice(cases(name, count, seed), number, None))
+    print(f"{name} {number}: {tag}")
+    for argument in arguments:
+        if isinstance(argument, cells.Place):
+            print("corners", argument.cell.corners)
+            print("at", argument.at, "image", argument.image)
+        elif isinstance(argument, cells.Cell):
+            print("corners", argument.corners)
+        else:
+            print(argument)
+    print("answer", records.answer(function, arguments))
+
+
+def main():
+    parser = argparse.ArgumentParser(description=__doc__, formatter_class=argparse.RawDescriptionHelpFormatter)
+    parser.add_argument("--cases", type=int, default=20000)
+    parser.add_argument("--seed", type=int, default=1)
+    parser.add_argument("--only", default=",".join(BOUNDARY))
+    parser.add_argument("--sample", metavar="PATH")
+    parser.add_argument("--show", nargs=2, metavar=("NAME", "NUMBER"))
+    options = parser.parse_args()
+    names = options.only.split(",")
+    if unknown := [name for name in names if name not in BOUNDARY]:
+        parser.error(f"no such function: {unknown[0]}")
+    examples.hold()
+    if options.show:
+        show(options.show[0], int(options.show[1]), options.cases, options.seed)
+    elif options.sample:
+        sample(names, options.sample)
+    else:
+        stream(names, options.cases, options.seed, sys.stdout.buffer)
+
+
+if __name__ == "__main__":
+    main()
