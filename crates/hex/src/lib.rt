@@ -188,8 +188,20 @@ fn image_entry(an: [f64; 8], p: [f64; 24], idim: usize) -> f64
         + an[7] * p[21 + idim]
 }
 
-// The image of a place, as the Newton step has it.
+// The image of a place.
 pub fn image(p: [f64; 24], pco: [f64; 3]) -> [f64; 3]
+    ensures { λ r. ⌜ r ≡ imageAt p pco ⌝ }
+{
+    let an = shapefunc(pco);
+    let mut pos = [0.0; 3];
+    for idim in 0..3usize {
+        pos[idim] = image_entry(an, p, idim);
+    }
+    pos
+}
+
+// For the Newton step, the same two by paths of their own: with no other caller they are compiled into the step.
+pub fn newton_image(p: [f64; 24], pco: [f64; 3]) -> [f64; 3]
     ensures { λ r. ⌜ r ≡ imageAt p pco ⌝ }
 {
     let an = shapefunc(pco);
@@ -200,33 +212,19 @@ pub fn image(p: [f64; 24], pco: [f64; 3]) -> [f64; 3]
     ]
 }
 
-// A place's image and Jacobian, for the Newton step: with no other caller this is compiled into the step.
-pub struct Linear {
-    pub image: [f64; 3],
-    pub jac: [f64; 9],
-}
-
-pub fn tangent(p: [f64; 24], pco: [f64; 3]) -> Linear
-    ensures { λ r. ⌜ (r .image ≡ imageAt p pco) × (r .jac ≡ jacobianAt p pco) ⌝ }
+pub fn newton_jacobian(p: [f64; 24], pco: [f64; 3]) -> [f64; 9]
+    ensures { λ r. ⌜ r ≡ jacobianAt p pco ⌝ }
 {
-    let an = shapefunc(pco);
     let dndr = dndr(pco);
-    Linear {
-        image: [
-            image_entry(an, p, 0),
-            image_entry(an, p, 1),
-            image_entry(an, p, 2),
-        ],
-        jac: [
-            dxdr_entry(p, dndr, 0, 0),
-            dxdr_entry(p, dndr, 0, 1),
-            dxdr_entry(p, dndr, 0, 2),
-            dxdr_entry(p, dndr, 1, 0),
-            dxdr_entry(p, dndr, 1, 1),
-            dxdr_entry(p, dndr, 1, 2),
-            dxdr_entry(p, dndr, 2, 0),
-            dxdr_entry(p, dndr, 2, 1),
-            dxdr_entry(p, dndr, 2, 2),
-        ],
-    }
+    [
+        dxdr_entry(p, dndr, 0, 0),
+        dxdr_entry(p, dndr, 0, 1),
+        dxdr_entry(p, dndr, 0, 2),
+        dxdr_entry(p, dndr, 1, 0),
+        dxdr_entry(p, dndr, 1, 1),
+        dxdr_entry(p, dndr, 1, 2),
+        dxdr_entry(p, dndr, 2, 0),
+        dxdr_entry(p, dndr, 2, 1),
+        dxdr_entry(p, dndr, 2, 2),
+    ]
 }

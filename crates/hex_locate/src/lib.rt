@@ -10,9 +10,8 @@ fn step_from(p: [f64; 24], at: Point) -> Step
     ensures { λ r. ⌜ stepTold r ≡ step p (coords at) ⌝ }
 {
     let pco = [at.x, at.y, at.z];
-    let at_pco = hex::tangent(p, pco);
-    let pos = at_pco.image;
-    let jac = at_pco.jac;
+    let pos = hex::newton_image(p, pco);
+    let jac = hex::newton_jacobian(p, pco);
     cell::newton_step(at, pos, jac)
 }
 

@@ -12,3 +12,8 @@ fillRow f w i (suc j) x = set (fillRow f w i j x) (w * i + j) (f i j)
 unfoldable pub fillRows {ℓ} : {A : Type ℓ} → (ℕ → ℕ → A) → ℕ → ℕ → List A → List A
 fillRows f w zero x = x
 fillRows f w (suc i) x = fillRow f w i w (fillRows f w i x)
+
+-- the first k entries of a list stored
+unfoldable pub fillTo {ℓ} : {A : Type ℓ} → (ℕ → A) → ℕ → List A → List A
+fillTo f zero x = x
+fillTo f (suc k) x = set (fillTo f k x) k (f k)

@@ -115,8 +115,20 @@ fn image_entry(sf: [f64; 6], p: [f64; 18], idim: usize) -> f64
         + sf[5] * p[15 + idim]
 }
 
-// The image of a place, as the Newton step has it.
+// The image of a place.
 pub fn image(p: [f64; 18], pco: [f64; 3]) -> [f64; 3]
+    ensures { λ r. ⌜ r ≡ imageAt p pco ⌝ }
+{
+    let sf = shapefunc(pco);
+    let mut pos = [0.0; 3];
+    for idim in 0..3usize {
+        pos[idim] = image_entry(sf, p, idim);
+    }
+    pos
+}
+
+// For the Newton step, the same two by paths of their own: with no other caller they are compiled into the step.
+pub fn newton_image(p: [f64; 18], pco: [f64; 3]) -> [f64; 3]
     ensures { λ r. ⌜ r ≡ imageAt p pco ⌝ }
 {
     let sf = shapefunc(pco);
@@ -127,33 +139,19 @@ pub fn image(p: [f64; 18], pco: [f64; 3]) -> [f64; 3]
     ]
 }
 
-// A place's image and Jacobian, for the Newton step: with no other caller this is compiled into the step.
-pub struct Linear {
-    pub image: [f64; 3],
-    pub jac: [f64; 9],
-}
-
-pub fn tangent(p: [f64; 18], pco: [f64; 3]) -> Linear
-    ensures { λ r. ⌜ (r .image ≡ imageAt p pco) × (r .jac ≡ jacobianAt p pco) ⌝ }
+pub fn newton_jacobian(p: [f64; 18], pco: [f64; 3]) -> [f64; 9]
+    ensures { λ r. ⌜ r ≡ jacobianAt p pco ⌝ }
 {
-    let sf = shapefunc(pco);
     let dndr = dndr(pco);
-    Linear {
-        image: [
-            image_entry(sf, p, 0),
-            image_entry(sf, p, 1),
-            image_entry(sf, p, 2),
-        ],
-        jac: [
-            dxdr_entry(p, dndr, 0, 0),
-            dxdr_entry(p, dndr, 0, 1),
-            dxdr_entry(p, dndr, 0, 2),
-            dxdr_entry(p, dndr, 1, 0),
-            dxdr_entry(p, dndr, 1, 1),
-            dxdr_entry(p, dndr, 1, 2),
-            dxdr_entry(p, dndr, 2, 0),
-            dxdr_entry(p, dndr, 2, 1),
-            dxdr_entry(p, dndr, 2, 2),
-        ],
-    }
+    [
+        dxdr_entry(p, dndr, 0, 0),
+        dxdr_entry(p, dndr, 0, 1),
+        dxdr_entry(p, dndr, 0, 2),
+        dxdr_entry(p, dndr, 1, 0),
+        dxdr_entry(p, dndr, 1, 1),
+        dxdr_entry(p, dndr, 1, 2),
+        dxdr_entry(p, dndr, 2, 0),
+        dxdr_entry(p, dndr, 2, 1),
+        dxdr_entry(p, dndr, 2, 2),
+    ]
 }

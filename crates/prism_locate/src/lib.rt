@@ -11,9 +11,8 @@ fn step_from(p: [f64; 18], at: Point) -> Step
     ensures { λ r. ⌜ stepTold r ≡ step p (coords at) ⌝ }
 {
     let pco = [at.x, at.y, at.z];
-    let at_pco = prism::tangent(p, pco);
-    let pos = at_pco.image;
-    let jac = at_pco.jac;
+    let pos = prism::newton_image(p, pco);
+    let jac = prism::newton_jacobian(p, pco);
     cell::newton_step(at, pos, jac)
 }
 

@@ -1,4 +1,4 @@
--- `prism_locate::step_from` meets its contract: the step is its two calls composed. Assumes nothing.
+-- `prism_locate::step_from` meets its contract: the step is its three calls composed. Assumes nothing.
 use borrow.Author.Needs.{needs}
 use Rattle.prism_locate.specs.Locate.{step}
 use Rattle.prism_locate.proofs.step_from.Statement.{statement}
@@ -6,9 +6,7 @@ use Rattle.prism_locate.proofs.step_from.Tie as tie
 
 returns : tie.Need-returns
 unfolding step
-returns c =
-    let at = c .before .before .before .tangent .ensures in
-    simp (c .newton-step .ensures, at .0, at .1)
+returns c = simp (c .newton-step .ensures, c .before .newton-jacobian .ensures, c .before .before .newton-image .ensures)
 
 pub step-from-spec : {M : Type 1} → statement M
-step-from-spec = tie.close (tie.spec (λ c κs. search needs) (λ c κs. search needs) returns)
+step-from-spec = tie.close (tie.spec (λ c κs. search needs) (λ c κs. search needs) (λ c κs. search needs) returns)
