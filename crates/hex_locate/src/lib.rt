@@ -33,9 +33,9 @@ fn answer(at: Point) -> Located
     }
 }
 
-// Corners: xyz, Xyz, XYz, xYz, xyZ, XyZ, XYZ, xYZ.
-pub fn parametric_coord_for_origin(p: [f64; 24]) -> Located
-    ensures { λ r. ⌜ told r ≡ located p ⌝ }
+// Twenty steps and the inside test, of corners that are lent.
+pub fn newton(p: &[f64; 24]) -> Located
+    ensures { λ r. ⌜ told r ≡ located (now (p .entry)) ⌝ }
 {
     let mut at = Point {
         x: 0.0,
@@ -43,7 +43,7 @@ pub fn parametric_coord_for_origin(p: [f64; 24]) -> Located
         z: 0.0,
     };
     for i in 0..20usize {
-        match step_from(p, at) {
+        match step_from(*p, at) {
             Step::Next(to) => {
                 at = to;
             }
@@ -53,4 +53,11 @@ pub fn parametric_coord_for_origin(p: [f64; 24]) -> Located
         }
     }
     answer(at)
+}
+
+// Corners: xyz, Xyz, XYz, xYz, xyZ, XyZ, XYZ, xYZ.
+pub fn parametric_coord_for_origin(p: [f64; 24]) -> Located
+    ensures { λ r. ⌜ told r ≡ located p ⌝ }
+{
+    newton(&p)
 }

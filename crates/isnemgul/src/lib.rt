@@ -252,7 +252,7 @@ pub extern "C" fn isn_hex_volume(corners: &[f64; 24], points: &[f64], out: &mut 
 pub extern "C" fn isn_hex_parametric_coord_for_origin(corners: &[f64; 24], at: &mut [f64; 3]) -> u32
     ensures { λ r. ⌜ Wrote (hexLocated (now (corners .entry))) r (now (at .entry)) (now (at .exit)) ⌝ }
 {
-    put_located(hex_locate::parametric_coord_for_origin(*corners), at)
+    put_located(hex_locate::newton(corners), at)
 }
 
 #[no_mangle]

@@ -131,7 +131,7 @@ fn locate(corners: [f64; 24], tolerance: f64) -> Checked
     if !good_tolerance(tolerance) {
         return Checked::Refused(4);
     }
-    let found = hex_locate::parametric_coord_for_origin(corners);
+    let found = hex_locate::newton(&corners);
     kept(corners, found, tolerance)
 }
 

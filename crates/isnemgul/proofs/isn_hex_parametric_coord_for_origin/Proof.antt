@@ -4,7 +4,7 @@ use Rattle.isnemgul.proofs.isn_hex_parametric_coord_for_origin.Statemen
 use Rattle.isnemgul.proofs.isn_hex_parametric_coord_for_origin.Tie as tie
 
 returns : tie.Need-returns
-returns c = rw (← c .before .before .parametric-coord-for-origin .ensures) (c .put-located .ensures)
+returns c = rw (← c .before .before .newton .ensures) (c .put-located .ensures)
 
 pub isn-hex-parametric-coord-for-origin-spec : {M : Type 1} → statement M
 isn-hex-parametric-coord-for-origin-spec = tie.close (tie.spec (λ c κs. search needs) (λ c κs. search needs) returns)

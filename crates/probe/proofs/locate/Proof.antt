@@ -17,14 +17,14 @@ returns-2 c =
 returns-3 : tie.Need-returns-3
 unfolding locatedChecked
 returns-3 c =
-    let tolerance = c .before .before in
+    let tolerance = c .before .before .before in
     let corners = tolerance .before .before in
     simp (
       ← corners .before .good-corners .ensures,
       corners .if1 .left,
       ← tolerance .before .good-tolerance .ensures,
       tolerance .if2 .left,
-      ← c .before .parametric-coord-for-origin .ensures,
+      ← c .before .newton .ensures,
       c .kept .ensures,
     )
 

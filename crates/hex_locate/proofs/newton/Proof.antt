@@ -1,4 +1,4 @@
--- `hex_locate::parametric_coord_for_origin` meets its contract. Before step i the place is what i steps give, so that a step that is
+-- `hex_locate::newton` meets its contract. Before step i the place is what i steps give, so that a step that is
 -- refused is the answer, and after the twentieth the inside test is. Assumes nothing.
 use Prim.Native.Nat.{_+_, _-_, _≤_}
 use native.Mathlib.Omega.{arith}
@@ -8,8 +8,8 @@ use Rattle.binary64.specs.Answer.{answered}
 use Rattle.cell.specs.Newton.{after, coords, stepTold}
 use Rattle.cell.proofs.Newton.{one-more, refused-early, after-twenty}
 use Rattle.hex_locate.specs.Locate.{step, start, inside, located}
-use Rattle.hex_locate.proofs.parametric_coord_for_origin.Statement.{statement}
-use Rattle.hex_locate.proofs.parametric_coord_for_origin.Tie as tie
+use Rattle.hex_locate.proofs.newton.Statement.{statement}
+use Rattle.hex_locate.proofs.newton.Tie as tie
 
 abbrev Inv-loop : tie.InvT-loop
 Inv-loop p at₀ i₀ at i = (i ≤ 20) × (after (step p) start i ≡ answered (coords at))
@@ -24,15 +24,15 @@ loop-holds c = (omega arith, refl)
 returns : tie.Need-returns Inv-loop μ-loop
 unfolding located
 returns c =
-    let turn = c .before .before .before .before in
-    refused-early (step (turn .before .args .p)) start inside (turn .loop .i) 1 (coords (turn .loop .at)) (omega arith) (turn .loop .inv .1)
+    let turn = c .before .before .before .before .before in
+    refused-early (step (turn .before .args .p .now)) start inside (turn .loop .i) 1 (coords (turn .loop .at)) (omega arith) (turn .loop .inv .1)
     (ap stepTold (sym (c .enum-told .given .1)) ∙ c .before .before .step-from .ensures)
 
 loop-again : tie.Need-loop-again Inv-loop μ-loop
 loop-again c =
-    let turn = c .before .before .before .before .before in (
+    let turn = c .before .before .before .before .before .before in (
       omega arith,
-      one-more (step (turn .before .args .p)) start (turn .loop .i) (coords (turn .loop .at)) _ (turn .loop .inv .1)
+      one-more (step (turn .before .args .p .now)) start (turn .loop .i) (coords (turn .loop .at)) _ (turn .loop .inv .1)
           (ap stepTold (sym (c .before .to .given .1)) ∙ c .before .before .before .step-from .ensures),
     )
 
@@ -40,10 +40,10 @@ returns-2 : tie.Need-returns-2 Inv-loop μ-loop
 unfolding located
 returns-2 c =
     let turn = c .before .before in
-    c .answer .ensures ∙ after-twenty (step (turn .before .args .p)) start inside (turn .loop .i) (coords (turn .loop .at)) (omega arith) (turn .loop .inv .1)
+    c .answer .ensures ∙ after-twenty (step (turn .before .args .p .now)) start inside (turn .loop .i) (coords (turn .loop .at)) (omega arith) (turn .loop .inv .1)
 
-pub parametric-coord-for-origin-spec : {M : Type 1} → statement M
-parametric-coord-for-origin-spec =
+pub newton-spec : {M : Type 1} → statement M
+newton-spec =
     tie.close
     (tie.spec
     Inv-loop
