@@ -1,12 +1,15 @@
-// One function for each carried function: whether it answers a record's inputs, which begin at word 0, as the Rust did. The Rust's answer is
+// One function for each function that is replayed: whether it answers a record's inputs, which begin at word 0, as was stored. That answer is
 // `outcome`, 0 or a refusal's number, and the words from `out` on.
 use cell::Located;
 use cell::Measured;
+use cell::Point;
 use hex_gradient::Outcome;
 use hex_gradient::WeightedGradient;
 use hex_iso::IsoMask;
 use hex_iso::IsoPosition;
 use mat3_col_major::Inverse;
+use probe::Checked;
+use probe::Verdict;
 ghost use Prim.Native.Nat.{_≤_};
 
 fn mat3_transpose(w: &[u64; 192]) -> bool {
@@ -298,6 +301,32 @@ fn prism_subdivide(w: &[u64; 192]) -> bool {
     crate::agree_numbers(&r, w, 18)
 }
 
+fn hex_check(w: &[u64; 192], outcome: u32) -> bool {
+    let mut p = [0.0; 24];
+    crate::read(w, 0, &mut p);
+    let at = Point {
+        x: crate::float_at(w, 24),
+        y: crate::float_at(w, 25),
+        z: crate::float_at(w, 26),
+    };
+    match probe::check(p, at, crate::float_at(w, 27)) {
+        Verdict::Accepted => outcome == 0,
+        Verdict::Refused(number) => outcome == number,
+    }
+}
+
+fn hex_locate_checked(w: &[u64; 192], outcome: u32) -> bool {
+    let mut p = [0.0; 24];
+    crate::read(w, 0, &mut p);
+    match probe::locate_checked(p, crate::float_at(w, 24)) {
+        Checked::Inside(r, s, t) => {
+            let at = [r, s, t];
+            crate::agree(&at, w, 25) & (outcome == 0)
+        }
+        Checked::Refused(number) => outcome == number,
+    }
+}
+
 // Whether record number `function` is answered as it was.
 pub fn agrees(function: u8, w: &[u64; 192], outcome: u32, out: usize) -> bool {
     if out > 96 {
@@ -326,6 +355,8 @@ pub fn agrees(function: u8, w: &[u64; 192], outcome: u32, out: usize) -> bool {
         20 => prism_volume(w, outcome, out),
         21 => prism_locate(w, outcome),
         22 => prism_subdivide(w),
+        23 => hex_check(w, outcome),
+        24 => hex_locate_checked(w, outcome),
         _ => false,
     }
 }

@@ -1,4 +1,4 @@
-// Replays the stored answers of the Rust (oracle/README.md) and prints how many of each function's records agree.
+// Replays the stored answers of the Rust and of the second program (oracle/README.md, oracle/second/README.md) and prints how many agree.
 mod cases;
 
 use libc::STDIN_FILENO;
