@@ -1,3 +1,4 @@
 pub mod Edges
+pub mod Faults
 pub mod Newton
 pub mod Points

@@ -1,4 +1,5 @@
 pub mod Edges
+pub mod Faults
 pub mod Image
 pub mod Middles
 pub mod Newton

@@ -1,7 +1,12 @@
+pub mod All
 pub mod Bits
+pub mod Cases
 pub mod Fill
 pub mod Fold
 pub mod Largest
+pub mod Little
+pub mod Prefix
+pub mod Stored
 pub mod Table
 pub mod Tabulate
 pub mod Tests

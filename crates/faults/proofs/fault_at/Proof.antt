@@ -1,0 +1,37 @@
+-- `faults::fault_at` meets its contract: the two tests in the definition's order. Assumes nothing.
+use borrow.Author.Needs.{needs}
+use borrow.Author.Tests.{not-true, not-false}
+use Rattle.cell.specs.Faults.{faultAt}
+use Rattle.faults.proofs.fault_at.Statement.{statement}
+use Rattle.faults.proofs.fault_at.Tie as tie
+
+returns : tie.Need-returns
+unfolding faultAt
+returns c =
+    let tests = c .before in
+    rw (← tests .before .in-range .ensures, not-true (tests .before .in-range .result) (c .if1 .taken))
+
+returns-2 : tie.Need-returns-2
+unfolding faultAt
+returns-2 c =
+    let tests = c .before .before in
+    rw (
+      ← tests .before .in-range .ensures,
+      not-false (tests .before .in-range .result) (c .before .if1 .left),
+      ← tests .different .ensures,
+      not-true (tests .different .result) (c .if2 .taken),
+    )
+
+returns-3 : tie.Need-returns-3
+unfolding faultAt
+returns-3 c =
+    let tests = c .before .before in
+    rw (
+      ← tests .before .in-range .ensures,
+      not-false (tests .before .in-range .result) (c .before .if1 .left),
+      ← tests .different .ensures,
+      not-false (tests .different .result) (c .if2 .left),
+    )
+
+pub fault-at-spec : {M : Type 1} → statement M
+fault-at-spec = tie.close (tie.spec (λ c κs. search needs) (λ c κs. search needs) returns returns-2 returns-3)

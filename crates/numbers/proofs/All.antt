@@ -1,0 +1,45 @@
+-- What passes at every number below a bound, one number at a time. Assumes nothing.
+use Prim.Native.Nat.{ℕ, zero, suc, _+_, _<_}
+use native.Mathlib.Nat.{eq-or-lt-of-le, le-of-suc-le-suc, not-suc-le-zero}
+use native.Mathlib.Numerals.{add-one}
+use native.Mathlib.Omega.{arith}
+use mathlib.Core.Path.{_≡_, refl}
+use mathlib.Core.Bool.{Bool, true, false, _&&_, false≢true}
+use mathlib.Core.Logic.{⊎-elim}
+use Rattle.numbers.specs.Rule.{all}
+
+pub left-true : (a b : Bool) → (a && b) ≡ true → a ≡ true
+left-true true b h = refl
+left-true false b h = absurd (false≢true h)
+
+pub right-true : (a b : Bool) → (a && b) ≡ true → b ≡ true
+right-true true b h = h
+right-true false b h = absurd (false≢true h)
+
+right-false : (a b : Bool) → b ≡ false → (a && b) ≡ false
+right-false true b h = h
+right-false false b h = refl
+
+module _ (p : ℕ → Bool) where
+  pub all-more : (k : ℕ) → all k p ≡ true → p k ≡ true → all (k + 1) p ≡ true
+  all-more k h e = rw (add-one, e) h
+
+  pub all-miss : (k n : ℕ) → k < n → p k ≡ false → all n p ≡ false
+  all-miss k zero h e = absurd (not-suc-le-zero h)
+  all-miss k (suc n) h e =
+      ⊎-elim
+      (λ (same : k ≡ n). rw (← same, e))
+      (λ (below : k < n). right-false (p n) (all n p) (all-miss k n below e))
+      (eq-or-lt-of-le (le-of-suc-le-suc h))
+
+  pub all-each : (n : ℕ) → all n p ≡ true → (k : ℕ) → k < n → p k ≡ true
+  all-each zero t k h = absurd (not-suc-le-zero h)
+  all-each (suc n) t k h =
+      ⊎-elim
+      (λ (same : k ≡ n). rw same (left-true (p n) (all n p) t))
+      (all-each n (right-true (p n) (all n p) t) k)
+      (eq-or-lt-of-le (le-of-suc-le-suc h))
+
+  pub all-where : (n : ℕ) → ((k : ℕ) → k < n → p k ≡ true) → all n p ≡ true
+  all-where zero f = refl
+  all-where (suc n) f = rw (f n (omega arith)) (all-where n (λ k h. f k (omega arith)))
