@@ -1,0 +1,139 @@
+-- What is first met, for any sameness: what is met stays met at its place, and a new thing is put behind. Assumes nothing.
+use Prim.Native.Nat.{ℕ, suc, _<_}
+use native.Mathlib.Nat.{le-of-suc-le-suc, not-suc-le-zero, eq-or-lt-of-le}
+use native.Mathlib.Numerals.{add-one}
+use native.Mathlib.Omega.{arith}
+use mathlib.Core.Path.{_≡_, refl, sym, ap, _∙_}
+use mathlib.Core.Bool.{Bool, true, false, _||_, or-assoc, or-false}
+use mathlib.Core.List.{List, [], _∷_, _++_, append-assoc, append-nil}
+use mathlib.Core.Logic.{⊎-elim}
+use lib.ListN.{length, length-append}
+use Rattle.numbers.proofs.Cases.{cases, never}
+use Rattle.numbering.specs.FirstMet.{among, meet, placeOf, Sameness}
+
+module _ {A : Type 0} (same : A → A → Bool) where
+  pub among-append : (xs ys : List A) (x : A) → among same (xs ++ ys) x ≡ (among same xs x || among same ys x)
+  among-append [] ys x = refl
+  among-append (y ∷ xs) ys x = ap (λ (t : Bool). same y x || t) (among-append xs ys x) ∙ sym (or-assoc (same y x) (among same xs x) (among same ys x))
+
+  place-front : (xs ys : List A) (x : A) → among same xs x ≡ true → placeOf same (xs ++ ys) x ≡ placeOf same xs x
+  place-front [] ys x h = never (sym h)
+  place-front (y ∷ xs) ys x h = cases (same y x) (λ t. rw t) (λ f. rw f (ap suc (place-front xs ys x (rw f at h))))
+
+  place-behind : (xs ys : List A) (x : A) → same x x ≡ true → among same xs x ≡ false → placeOf same (xs ++ (x ∷ ys)) x ≡ length xs
+  place-behind [] ys x self h = rw self
+  place-behind (y ∷ xs) ys x self h =
+      cases (same y x)
+      (λ t. never (rw t at h))
+      (λ f. rw f (ap suc (place-behind xs ys x self (rw f at h))))
+
+  pub place-below : (xs : List A) (x : A) → among same xs x ≡ true → placeOf same xs x < length xs
+  place-below [] x h = never (sym h)
+  place-below (y ∷ xs) x h =
+      cases (same y x)
+      (λ t. rw t (omega arith))
+      (λ f. let below = place-below xs x (rw f at h) in rw f (omega arith))
+
+  pub meet-append : (met xs ys : List A) → meet same met (xs ++ ys) ≡ meet same (meet same met xs) ys
+  unfolding meet
+  meet-append met [] ys = refl
+  meet-append met (x ∷ xs) ys = meet-append _ xs ys
+
+  -- one thing more
+  pub meet-old : (met : List A) (x : A) → among same met x ≡ true → meet same met (x ∷ []) ≡ met
+  unfolding meet
+  meet-old met x h = rw h
+
+  pub meet-new : (met : List A) (x : A) → among same met x ≡ false → meet same met (x ∷ []) ≡ met ++ (x ∷ [])
+  unfolding meet
+  meet-new met x h = rw h
+
+  grows : (xs met : List A) → (ys : List A) × (meet same met xs ≡ met ++ ys)
+  unfolding meet
+  grows [] met = ([], sym (append-nil met))
+  grows (x ∷ xs) met =
+      cases (among same met x)
+      (λ t. rw t (grows xs met))
+      (λ f. let more = grows xs (met ++ (x ∷ [])) in (x ∷ more .0, rw f (more .1 ∙ append-assoc met (x ∷ []) (more .0))))
+
+  pub place-kept : (met xs : List A) (x : A) → among same met x ≡ true → placeOf same (meet same met xs) x ≡ placeOf same met x
+  place-kept met xs x h = let more = grows xs met in rw (more .1) (place-front met (more .0) x h)
+
+module _ {A : Type 0} (same : A → A → Bool) (s : Sameness same) where
+  -- things that are the same are the same as the same things
+  pub alike : (x y z : A) → same x y ≡ true → same z x ≡ same z y
+  alike x y z h =
+      cases (same z x)
+      (λ t. t ∙ sym (s .across z x y t h))
+      (λ f. cases (same z y) (λ t. never (sym (s .across z y x t (s .swap y x ∙ h)) ∙ f)) (λ g. f ∙ sym g))
+
+  pub among-alike : (xs : List A) (x y : A) → same x y ≡ true → among same xs x ≡ among same xs y
+  among-alike [] x y h = refl
+  among-alike (z ∷ xs) x y h = rw (alike x y z h, among-alike xs x y h)
+
+  pub place-alike : (xs : List A) (x y : A) → same x y ≡ true → placeOf same xs x ≡ placeOf same xs y
+  place-alike [] x y h = refl
+  place-alike (z ∷ xs) x y h = rw (alike x y z h, place-alike xs x y h)
+
+  -- what has one place is the same
+  pub place-tells : (xs : List A) (x y : A) → among same xs x ≡ true → among same xs y ≡ true → placeOf same xs x ≡ placeOf same xs y → same x y ≡ true
+  place-tells [] x y hx hy e = never (sym hx)
+  place-tells (z ∷ xs) x y hx hy e =
+      cases (same z x)
+      (λ t.
+      cases (same z y)
+      (λ u. s .across x z y (s .swap x z ∙ t) u)
+      (λ g. let q : 0 ≡ suc (placeOf same xs y) = rw (t, g) at e in absurd (omega arith)))
+      (λ f.
+      cases (same z y)
+      (λ u. let q : suc (placeOf same xs x) ≡ 0 = rw (f, u) at e in absurd (omega arith))
+      (λ g. let q : suc (placeOf same xs x) ≡ suc (placeOf same xs y) = rw (f, g) at e in place-tells xs x y (rw f at hx) (rw g at hy) (omega arith)))
+
+  either : (a b c : Bool) → (b ≡ true → a ≡ true) → (a || c) ≡ (a || (b || c))
+  either true b c h = refl
+  either false true c h = never (sym (h refl))
+  either false false c h = refl
+
+  -- what has been met is what was met before and what is met now
+  pub among-meet : (met xs : List A) (x : A) → among same (meet same met xs) x ≡ (among same met x || among same xs x)
+  unfolding meet
+  among-meet met [] x = sym (or-false (among same met x))
+  among-meet met (y ∷ xs) x =
+      cases (among same met y)
+      (λ t. rw t (among-meet met xs x ∙ either (among same met x) (same y x) (among same xs x) (λ h. sym (among-alike met y x h) ∙ t)))
+      (λ f.
+      rw f (among-meet (met ++ (y ∷ [])) xs x
+      ∙ rw (among-append same met (y ∷ []) x, or-false) (or-assoc (among same met x) (same y x) (among same xs x))))
+
+  -- a new thing is put behind those that are met, and stays there
+  pub first-met : (met xs : List A) (x : A) → among same met x ≡ false → placeOf same (meet same met (x ∷ xs)) x ≡ length met
+  unfolding meet
+  first-met met xs x h =
+      let there : among same (met ++ (x ∷ [])) x ≡ true = rw (among-append same met (x ∷ []) x, h, s .self x) in
+      rw h (place-kept same (met ++ (x ∷ [])) xs x there ∙ place-behind same met [] x (s .self x) h)
+
+  abbrev Full : List A → Type 0
+  Full met = (k : ℕ) → k < length met → (x : A) × (among same met x ≡ true) × (placeOf same met x ≡ k)
+
+  fuller : (met : List A) (x : A) → among same met x ≡ false → Full met → Full (met ++ (x ∷ []))
+  fuller met x h full k below =
+      let there : among same (met ++ (x ∷ [])) x ≡ true = rw (among-append same met (x ∷ []) x, h, s .self x) in
+      let long : length (met ++ (x ∷ [])) ≡ suc (length met) = rw length-append (add-one (length met)) in
+      ⊎-elim
+      (λ (e : k ≡ length met). (x, there, place-behind same met [] x (s .self x) h ∙ sym e))
+      (λ (less : k < length met).
+      let old = full k less in
+      (old .0, rw (among-append same met (x ∷ []) (old .0), old .1), place-front same met (x ∷ []) (old .0) (old .1) ∙ old .2))
+      (eq-or-lt-of-le (le-of-suc-le-suc (rw long at below)))
+
+  -- every place has its thing
+  pub every-place : (xs met : List A) → Full met → Full (meet same met xs)
+  unfolding meet
+  every-place [] met full = full
+  every-place (x ∷ xs) met full =
+      cases (among same met x)
+      (λ t. rw t (every-place xs met full))
+      (λ f. rw f (every-place xs (met ++ (x ∷ [])) (fuller met x f full)))
+
+  pub none-yet : Full []
+  none-yet k below = absurd (not-suc-le-zero below)

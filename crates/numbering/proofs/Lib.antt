@@ -1,0 +1,6 @@
+pub mod Cells
+pub mod FirstMet
+pub mod Keys
+pub mod Numbered
+pub mod Same
+pub mod Steps

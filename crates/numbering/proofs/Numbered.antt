@@ -1,0 +1,150 @@
+-- The numbers n .. next - 1 are each given out once, to what is the same, and they are counted by kind. Assumes nothing.
+use Prim.Native.Nat.{ℕ, zero, suc, _+_, _-_, _≤_, _<_}
+use native.Mathlib.Numerals.{add-one}
+use native.Mathlib.Omega.{arith}
+use mathlib.Core.Path.{_≡_, refl, sym, ap, _∙_}
+use mathlib.Core.Bool.{Bool, true, false, cond}
+use mathlib.Core.List.{List, [], _∷_, _++_, append-nil}
+use mathlib.Core.Logic.{_↔_}
+use borrow.Author.Tests.{ne-eqb}
+use lib.Dec.{T, eqb}
+use lib.ListN.{length, length-append}
+use Rattle.numbers.proofs.Cases.{cases, never, is-true, passes, is-false}
+use Rattle.numbering.specs.FirstMet.{among, meet, different, placeOf}
+use Rattle.numbering.specs.Refinement.{Thing, edge, face, centre, same, edgesOf, facesOf, thingsOf, things}
+use Rattle.numbering.specs.Refinement.{cellCount, chain, given, number, next, IsMet, countOf, NumberedOnce}
+use Rattle.numbering.proofs.FirstMet.{among-append, among-meet, place-below, place-alike, place-tells, meet-append, meet-new, every-place, none-yet}
+use Rattle.numbering.proofs.Same.{same-things}
+use Rattle.numbering.proofs.Steps.{chain-has}
+
+-- those of a list that pass
+abbrev keep : {A : Type 0} → (A → Bool) → List A → List A
+keep p [] = []
+keep p (x ∷ xs) = cond (p x) (x ∷ keep p xs) (keep p xs)
+
+keep-append : {A : Type 0} (p : A → Bool) (xs ys : List A) → keep p (xs ++ ys) ≡ keep p xs ++ keep p ys
+keep-append p [] ys = refl
+keep-append p (x ∷ xs) ys = cases (p x) (λ t. rw (t, keep-append p xs ys)) (λ f. rw (f, keep-append p xs ys))
+
+-- the different ones of those that pass are those of the different ones that pass, where what is the same passes alike
+module _ {A : Type 0} (same : A → A → Bool) (p : A → Bool) (fair : (x y : A) → same x y ≡ true → p x ≡ p y) where
+  among-keep : (xs : List A) (x : A) → p x ≡ true → among same (keep p xs) x ≡ among same xs x
+  among-keep [] x h = refl
+  among-keep (y ∷ xs) x h =
+      cases (p y)
+      (λ t. rw (t, among-keep xs x h))
+      (λ f. let other : same y x ≡ false = is-false (same y x) (λ t. never (sym h ∙ sym (fair y x t) ∙ f)) in rw (f, other) (among-keep xs x h))
+
+  -- the same of one thing more
+  keep-one : (met : List A) (x : A) → keep p (meet same met (x ∷ [])) ≡ meet same (keep p met) (keep p (x ∷ []))
+  unfolding meet
+  keep-one met x =
+      cases (p x)
+      (λ t.
+      cases (among same met x)
+      (λ old. rw t (rw (among-keep met x t, old)))
+      (λ new. rw t (rw (among-keep met x t, new) (keep-append p met (x ∷ []) ∙ rw t))))
+      (λ f.
+      cases (among same met x)
+      (λ old. rw f (rw old))
+      (λ new. rw f (rw new (keep-append p met (x ∷ []) ∙ rw (f, append-nil)))))
+
+  keep-meet : (met xs : List A) → keep p (meet same met xs) ≡ meet same (keep p met) (keep p xs)
+  unfolding meet
+  keep-meet met [] = refl
+  keep-meet met (x ∷ xs) =
+      keep-meet (meet same met (x ∷ [])) xs
+      ∙ ap (λ (m : List A). meet same m (keep p xs)) (keep-one met x)
+      ∙ sym (meet-append same (keep p met) (keep p (x ∷ [])) (keep p xs))
+      ∙ ap (meet same (keep p met)) (sym (keep-append p (x ∷ []) xs))
+
+keep-chain : {A : Type 0} (p : A → Bool) (c : ℕ) (f : ℕ → List A) → keep p (chain c f) ≡ chain c (λ (d : ℕ). keep p (f d))
+unfolding chain
+keep-chain p zero f = refl
+keep-chain p (suc c) f = keep-append p (chain c f) (f c) ∙ rw (keep-chain p c f)
+
+-- the three kinds
+abbrev kind : Thing → ℕ
+kind (edge ps) = 0
+kind (face ps) = 1
+kind (centre c) = 2
+
+abbrev isKind : ℕ → Thing → Bool
+isKind k x = eqb (kind x) k
+
+same-kind : (x y : Thing) → same x y ≡ true → kind x ≡ kind y
+same-kind (edge ps) (edge qs) h = refl
+same-kind (edge ps) (face qs) h = never (sym h)
+same-kind (edge ps) (centre d) h = never (sym h)
+same-kind (face ps) (edge qs) h = never (sym h)
+same-kind (face ps) (face qs) h = refl
+same-kind (face ps) (centre d) h = never (sym h)
+same-kind (centre c) (edge qs) h = never (sym h)
+same-kind (centre c) (face qs) h = never (sym h)
+same-kind (centre c) (centre d) h = refl
+
+by-kind : (xs : List Thing) → length xs ≡ length (keep (isKind 0) xs) + length (keep (isKind 1) xs) + length (keep (isKind 2) xs)
+by-kind [] = refl
+by-kind (edge ps ∷ xs) = let rest = by-kind xs in omega arith
+by-kind (face ps ∷ xs) = let rest = by-kind xs in omega arith
+by-kind (centre c ∷ xs) = let rest = by-kind xs in omega arith
+
+-- what the first c cells have of one kind
+kept : (k c : ℕ) (f : ℕ → List Thing) → keep (isKind k) (different same (chain c f)) ≡ different same (chain c (λ (d : ℕ). keep (isKind k) (f d)))
+kept k c f =
+    keep-meet same (isKind k) (λ x y h. ap (λ (j : ℕ). eqb j k) (same-kind x y h)) [] (chain c f)
+    ∙ ap (different same) (keep-chain (isKind k) c f)
+
+-- the centres of the first c cells
+abbrev centres : ℕ → List Thing
+centres c = chain c (λ (d : ℕ). centre d ∷ [])
+
+-- "every centre is new"
+fresh : (c d : ℕ) → c ≤ d → among same (centres c) (centre d) ≡ false
+unfolding chain
+fresh zero d h = refl
+fresh (suc c) d h = among-append same (centres c) (centre c ∷ []) (centre d) ∙ rw (fresh c d (omega arith), ne-eqb c d (λ e. omega arith))
+
+all-centres : (c : ℕ) → length (different same (centres c)) ≡ c
+unfolding chain meet
+all-centres zero = refl
+all-centres (suc c) =
+    let new : among same (different same (centres c)) (centre c) ≡ false = among-meet same same-things [] (centres c) (centre c) ∙ fresh c c (omega arith) in
+    ap length (meet-append same [] (centres c) (centre c ∷ []) ∙ meet-new same (different same (centres c)) (centre c) new)
+    ∙ length-append (different same (centres c)) (centre c ∷ [])
+    ∙ add-one (length (different same (centres c)))
+    ∙ ap suc (all-centres c)
+
+module _ (n : ℕ) (cells : List ℕ) where
+  is-given : (x : Thing) → IsMet cells x → among same (given cells) x ≡ true
+  unfolding given
+  is-given x m = among-meet same same-things [] (things cells) x ∙ is-true (among same (things cells) x) m
+
+  each : (k : ℕ) → n ≤ k → k < next n cells → (x : Thing) × IsMet cells x × (number n cells x ≡ k)
+  unfolding given
+  each k low high =
+      let found = every-place same same-things (things cells) [] (none-yet same same-things) (k - n) (omega arith) in
+      let place : placeOf same (different same (things cells)) (found .0) ≡ k - n = found .2 in
+      (found .0, passes (among same (things cells) (found .0)) (sym (among-meet same same-things [] (things cells) (found .0)) ∙ found .1), omega arith)
+
+  shared : (x y : Thing) → IsMet cells x → IsMet cells y → (number n cells x ≡ number n cells y) ↔ T (same x y)
+  shared x y mx my = (
+    (λ e. passes (same x y) (place-tells same same-things (given cells) x y (is-given x mx) (is-given y my) (omega arith))),
+    (λ t. ap (λ (p : ℕ). n + p) (place-alike same same-things (given cells) x y (is-true (same x y) t))),
+  )
+
+  counted : length (given cells) ≡ countOf edgesOf cells + countOf facesOf cells + cellCount cells
+  unfolding given
+  counted =
+      let c = cellCount cells in
+      by-kind (different same (things cells)) ∙ rw (kept 0 c (thingsOf cells), kept 1 c (thingsOf cells), kept 2 c (thingsOf cells), all-centres c)
+
+pub numbered-once : NumberedOnce
+numbered-once n cells =
+    record {
+      met = λ c x below t. passes _ (chain-has same x (cellCount cells) (thingsOf cells) c below (is-true (among same (thingsOf cells c) x) t));
+      inside = λ x m. (omega arith, let below = place-below same (given cells) x (is-given n cells x m) in omega arith);
+      each = each n cells;
+      shared = shared n cells;
+      counted = let count = counted n cells in omega arith;
+    }

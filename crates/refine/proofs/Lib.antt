@@ -1,0 +1,6 @@
+pub mod Cell
+pub mod Output
+pub mod Rules
+pub mod Search
+pub mod Slots
+pub mod Told

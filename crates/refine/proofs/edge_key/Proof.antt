@@ -1,0 +1,24 @@
+-- `refine::edge_key` meets its contract: the smaller end is the lower digit. Assumes nothing.
+use borrow.Author.Needs.{needs}
+use Rattle.numbering.proofs.Keys.{pair-key}
+use Rattle.refine.proofs.edge_key.Statement.{statement}
+use Rattle.refine.proofs.edge_key.Tie as tie
+
+returns : tie.Need-returns
+returns c =
+    let ends = c .before .before in
+    rw (c .high .ensures, c .before .low .ensures, ends .edge-node2 .ensures, ends .before .edge-node .ensures) (pair-key _ _)
+
+pub edge-key-spec : {M : Type 1} → statement M
+edge-key-spec =
+    tie.close
+    (tie.spec
+    (λ c κs. search needs)
+    (λ c κs. search needs)
+    (λ c κs. search needs)
+    (λ c. search needs)
+    (λ c κs. search needs)
+    (λ c. search needs)
+    (λ c. search needs)
+    (λ c. search needs)
+    returns)

@@ -1,0 +1,52 @@
+-- `refine::face_key` meets its contract: five exchanges put the four nodes in rising order. Assumes nothing.
+use mathlib.Core.Path.{_∙_}
+use borrow.Author.Needs.{needs}
+use Rattle.numbering.proofs.Keys.{four-key}
+use Rattle.refine.proofs.face_key.Statement.{statement}
+use Rattle.refine.proofs.face_key.Tie as tie
+
+returns : tie.Need-returns
+returns c =
+    let last = c .before in
+    let low5 = last .before .before in
+    let middle = low5 .before .before in
+    let pairs = middle .before .before in
+    let nodes = pairs .before .before .before .before in
+    c .digits .ensures
+    ∙ simp (
+      last .high5 .ensures,
+      last .before .high4 .ensures,
+      low5 .low5 .ensures,
+      low5 .before .low4 .ensures,
+      middle .low3 .ensures,
+      middle .before .high3 .ensures,
+      pairs .high2 .ensures,
+      pairs .before .low2 .ensures,
+      pairs .before .before .high .ensures,
+      pairs .before .before .before .low .ensures,
+      nodes .face-node4 .ensures,
+      nodes .before .face-node3 .ensures,
+      nodes .before .before .face-node2 .ensures,
+      nodes .before .before .before .face-node .ensures,
+    ) (four-key _ _ _ _ (nodes .before .before .before .before .before .pre .2))
+
+pub face-key-spec : {M : Type 1} → statement M
+face-key-spec =
+    tie.close
+    (tie.spec
+    (λ c κs. search needs)
+    (λ c κs. search needs)
+    (λ c κs. search needs)
+    (λ c κs. search needs)
+    (λ c κs. search needs)
+    (λ c κs. search needs)
+    (λ c κs. search needs)
+    (λ c κs. search needs)
+    (λ c κs. search needs)
+    (λ c κs. search needs)
+    (λ c κs. search needs)
+    (λ c κs. search needs)
+    (λ c κs. search needs)
+    (λ c κs. search needs)
+    (λ c κs. search needs)
+    returns)

@@ -1,0 +1,96 @@
+-- `refine::refine_cells` meets its contract: before each cell the numbers held are those of the numbering, and the output has the
+-- children of the cells passed. Assumes nothing.
+use Prim.Native.Nat.{_+_, _*_, _-_, _≤_}
+use native.Mathlib.Omega.{arith}
+use mathlib.Core.Path.{_≡_, refl, _∙_}
+use mathlib.Core.List.{_++_}
+use borrow.Author.Needs.{needs}
+use lib.ListN.{length, drop}
+use Rattle.cell.proofs.Faults.{faultless-is-sound}
+use Rattle.numbering.specs.Refinement.{cellCount, chain, given, childNumbers}
+use Rattle.numbering.proofs.Cells.{face-nodes}
+use Rattle.refine.proofs.Cell.{Standing, stands-first, one-more}
+use Rattle.refine.proofs.Output.{nothing-yet, part-more}
+use Rattle.refine.proofs.refine_cells.Statement.{statement}
+use Rattle.refine.proofs.refine_cells.Tie as tie
+
+abbrev Inv-loop : tie.InvT-loop
+Inv-loop n cells out₀ edge-keys face-keys edges₀ faces₀ next₀ count cell₀ out edges faces next cell =
+    (cell ≤ count) × (length edges ≡ 1536) × (length faces ≡ 768) × (length out ≡ length out₀) × (next ≤ n + 19 * cell)
+    × Standing n cells edges faces cell next × (out ≡ chain cell (childNumbers n cells) ++ drop (64 * cell) out₀)
+
+abbrev μ-loop : tie.MeasureT-loop
+μ-loop n cells out₀ edge-keys face-keys edges₀ faces₀ next₀ count cell₀ out edges faces next cell = count - cell
+
+face-keys-requires : tie.Need-face-keys-requires Inv-loop μ-loop
+face-keys-requires c κs =
+    let start = c .before .before .before in
+    let n = start .args .n in
+    let cells = start .args .cells .now in
+    (start .pre .1, λ d f h l. face-nodes n cells d (faultless-is-sound .sound n 8 cells (start .pre .3) d h) (start .pre .0) f l .differ)
+
+loop-holds : tie.Need-loop-holds Inv-loop μ-loop
+loop-holds c = (search needs, refl, refl, refl, search needs, stands-first _ _ _ _, nothing-yet _ _)
+
+loop-again : tie.Need-loop-again Inv-loop μ-loop
+loop-again c =
+    let wrote = c .before .before in
+    let second = wrote .before .before .before .before .before in
+    let first = second .before .before .before .before in
+    let turn = first .before .before .before .before in
+    let keys = turn .before in
+    let start = keys .before .before .before .before in
+    let n = start .args .n in
+    let cells = start .args .cells .now in
+    let cell = turn .loop .cell in
+    let inv = turn .loop .inv in
+    let sound = faultless-is-sound .sound n 8 cells (start .pre .3) in
+    let edge-keyed = keys .before .edge-keys .ensures in
+    let face-keyed = keys .face-keys .ensures in
+    let more = one-more n (start .pre .0) cells sound cell (omega arith) _ edge-keyed _ face-keyed _ _ _ _ _ _ _ (inv .5) (first .number .ensures .0)
+    (second .number2 .ensures .0) in (
+      omega arith,
+      first .number .kept .1 .0 ∙ inv .1,
+      second .number2 .kept .1 .0 ∙ inv .2,
+      c .before .out .given .1 ∙ inv .3,
+      omega (arith, first .number .ensures .1, second .number2 .ensures .1),
+      more .0,
+      part-more (childNumbers n cells) (λ d. refl) cell (64 * cell + 64 - 64 * cell) _ _ _ (omega arith) (wrote .write-children .ensures ∙ more .1) (inv .6),
+    )
+
+returns : tie.Need-returns Inv-loop μ-loop
+unfolding given
+returns c =
+    let done : c .before .loop .cell ≡ cellCount (c .before .before .before .before .before .before .args .cells .now) = omega arith in
+    (rw done at (c .before .loop .inv .5 .of-next), rw done at (c .before .loop .inv .6))
+
+pub refine-cells-spec : {M : Type 1} → statement M
+refine-cells-spec =
+    tie.close
+    (tie.spec
+    Inv-loop
+    μ-loop
+    (λ c κs. search needs)
+    face-keys-requires
+    loop-holds
+    (λ c. search needs)
+    (λ c. search needs)
+    (λ c κs. search needs)
+    (λ c. search needs)
+    (λ c. search needs)
+    (λ c κs. search needs)
+    (λ c. search needs)
+    (λ c. search needs)
+    (λ c. search needs)
+    (λ c. search needs)
+    (λ c. search needs)
+    (λ c. search needs)
+    (λ c. search needs)
+    (λ c. search needs)
+    (λ c κs. search needs)
+    (λ c. search needs)
+    (λ c. search needs)
+    (λ c. search needs)
+    loop-again
+    (λ c. search needs)
+    returns)

@@ -1,0 +1,39 @@
+-- What a refinement answers and leaves in the output. Document 01, "Refinement". Definitions and claims only.
+use Prim.Native.Nat.{ℕ, _*_, _%_}
+use mathlib.Core.Bool.{cond, not}
+use mathlib.Core.List.{List, _++_}
+use lib.Dec.{eqb, ltb}
+use lib.ListN.{length, drop}
+use Rattle.binary64.specs.Answer.{Answer, answered, refused, LosesNothing}
+use Rattle.cell.specs.Faults.{firstFault}
+use Rattle.numbering.specs.Refinement.{cellCount, chain, next, childNumbers}
+use Rattle.refine.specs.declared.Refined.{Refined}
+use Rattle.refine.specs.declared.Refined.the-variants.{Next, Refused}
+
+-- "Refinement: 7 (n, then list longer than 1,024 numbers), 8 (list, then output), then cell by cell 9 before 10." "The answer is the next free number."
+unfoldable pub refined : ℕ → List ℕ → ℕ → Answer ℕ
+refined n cells room =
+    cond (ltb 1024 n) (refused 7)
+    (cond (ltb 1024 (length cells)) (refused 7)
+    (cond (not (eqb (length cells % 8) 0)) (refused 8)
+    (cond (ltb room (64 * cellCount cells)) (refused 8)
+    (cond (not (eqb (firstFault n 8 cells) 0)) (refused (firstFault n 8 cells))
+    (answered (next n cells))))))
+
+-- "Each cell's 64 child numbers go into the output part that starts at 64 times the cell's place; the rest of the output is untouched."
+abbrev pub written : ℕ → List ℕ → List ℕ → List ℕ
+written n cells out = chain (cellCount cells) (childNumbers n cells) ++ drop (64 * cellCount cells) out
+
+-- "A refusal .. leaves lent buffers untouched."
+abbrev pub outputAfter : Answer ℕ → ℕ → List ℕ → List ℕ → List ℕ
+outputAfter (answered free) n cells out = written n cells out
+outputAfter (refused number) n cells out = out
+
+-- the number and the value of each case
+abbrev pub told : Refined → Answer ℕ
+told (Next free) = answered free
+told (Refused number) = refused number
+
+-- So the contract leaves one possible answer.
+abbrev pub ToldLosesNothing : Type 0
+ToldLosesNothing = LosesNothing told
