@@ -1,0 +1,114 @@
+-- `hxm::judge` meets its contract: the tests climb the definition's ladder. Assumes nothing.
+use Prim.Native.Nat.{ℕ}
+use mathlib.Core.Path.{_≡_}
+use mathlib.Core.List.{List}
+use borrow.Author.Needs.{needs}
+use borrow.Author.Tests.{lt-ltb, le-ltb, eq-eqb, ne-eqb}
+use Rattle.hxm.specs.Format.{meshOf}
+use Rattle.hxm.specs.Reads.{counts}
+use Rattle.hxm.proofs.Ladder.{rungs, climbed}
+use Rattle.hxm.proofs.judge.Statement.{statement}
+use Rattle.hxm.proofs.judge.Tie as tie
+
+returns : tie.Need-returns
+unfolding meshOf
+returns c = simp (lt-ltb _ _ (c .if1 .taken))
+
+-- the rungs that are left behind the head
+module _ (c : tie.After-u32-at2) where
+  abbrev file : List ℕ
+  file = c .before .before .before .before .before .before .args .bytes .now
+
+  head : counts (meshOf file)
+      ≡ rungs file (c .before .before .before .marked .result) (c .before .before .u16-at .result) (c .before .u32-at .result) (c .u32-at2 .result)
+  head =
+      climbed file _ _ _ _ (c .before .before .before .before .if1 .left)
+      (c .before .before .before .marked .ensures)
+      (c .before .before .u16-at .ensures)
+      (c .before .u32-at .ensures)
+      (c .u32-at2 .ensures)
+
+returns-2 : tie.Need-returns-2
+returns-2 c = rw (head (c .before), c .if2 .taken)
+
+returns-3 : tie.Need-returns-3
+returns-3 c = simp (head (c .before .before), c .before .if2 .left, ne-eqb _ _ (c .if3 .taken))
+
+returns-4 : tie.Need-returns-4
+returns-4 c =
+    let mark = c .before .before in
+    simp (head (mark .before), mark .if2 .left, eq-eqb _ _ (c .before .if3 .left), lt-ltb _ _ (c .if4 .taken))
+
+returns-5 : tie.Need-returns-5
+returns-5 c =
+    let mark = c .before .before .before in
+    simp (head (mark .before), mark .if2 .left, eq-eqb _ _ (c .before .before .if3 .left), le-ltb _ _ (c .before .if4 .left), lt-ltb _ _ (c .if5 .taken))
+
+returns-6 : tie.Need-returns-6
+returns-6 c =
+    let few = c .before in
+    let mark = few .before .before .before in
+    simp (
+      head (mark .before),
+      mark .if2 .left,
+      eq-eqb _ _ (few .before .before .if3 .left),
+      le-ltb _ _ (few .before .if4 .left),
+      le-ltb _ _ (few .if5 .left),
+      ne-eqb _ _ (c .if6 .taken),
+    )
+
+returns-7 : tie.Need-returns-7
+returns-7 c =
+    let few = c .before .before .before in
+    let mark = few .before .before .before in
+    simp (
+      head (mark .before),
+      mark .if2 .left,
+      eq-eqb _ _ (few .before .before .if3 .left),
+      le-ltb _ _ (few .before .if4 .left),
+      le-ltb _ _ (few .if5 .left),
+      eq-eqb _ _ (c .before .before .if6 .left),
+      ← c .before .fault-at .ensures,
+      ne-eqb _ _ (c .if7 .taken),
+    )
+
+returns-8 : tie.Need-returns-8
+returns-8 c =
+    let few = c .before .before .before in
+    let mark = few .before .before .before in
+    simp (
+      head (mark .before),
+      mark .if2 .left,
+      eq-eqb _ _ (few .before .before .if3 .left),
+      le-ltb _ _ (few .before .if4 .left),
+      le-ltb _ _ (few .if5 .left),
+      eq-eqb _ _ (c .before .before .if6 .left),
+      ← c .before .fault-at .ensures,
+      eq-eqb _ _ (c .if7 .left),
+    )
+
+pub judge-spec : {M : Type 1} → statement M
+judge-spec =
+    tie.close
+    (tie.spec
+    returns
+    (λ c κs. search needs)
+    (λ c κs. search needs)
+    (λ c κs. search needs)
+    (λ c κs. search needs)
+    returns-2
+    returns-3
+    returns-4
+    returns-5
+    (λ c. search needs)
+    (λ c. search needs)
+    (λ c. search needs)
+    (λ c. search needs)
+    (λ c. search needs)
+    (λ c. search needs)
+    returns-6
+    (λ c. search needs)
+    (λ c. search needs)
+    (λ c κs. search needs)
+    returns-7
+    returns-8)

@@ -1,0 +1,32 @@
+-- `hxm::u16_at` meets its contract: two numbers of a byte each. Assumes nothing.
+use Prim.Native.Nat.{_+_}
+use native.Mathlib.Omega.{arith}
+use borrow.Author.Needs.{needs}
+use Rattle.numbers.proofs.Little.{number-split, number-byte}
+use Rattle.hxm.proofs.u16_at.Statement.{statement}
+use Rattle.hxm.proofs.u16_at.Tie as tie
+
+returns : tie.Need-returns
+returns c =
+    let args = c .before .before .before .before .before .args in
+    let s = args .bytes .now in
+    rw (
+      number-split s 1 1 (args .at) (omega arith),
+      number-byte s (args .at) (omega arith),
+      number-byte s (args .at + 1) (omega arith),
+      c .wide2 .ensures .0,
+      c .before .before .wide .ensures .0,
+    )
+
+pub u16-at-spec : {M : Type 1} → statement M
+u16-at-spec =
+    tie.close
+    (tie.spec
+    (λ c. search needs)
+    (λ c κs. search needs)
+    (λ c. search needs)
+    (λ c. search needs)
+    (λ c κs. search needs)
+    (λ c. search needs)
+    (λ c. search needs)
+    returns)

@@ -1,0 +1,24 @@
+-- `hxm::u32_at` meets its contract: two numbers of two bytes each. Assumes nothing.
+use native.Mathlib.Omega.{arith}
+use borrow.Author.Needs.{needs}
+use Rattle.numbers.proofs.Little.{number-split}
+use Rattle.hxm.proofs.u32_at.Statement.{statement}
+use Rattle.hxm.proofs.u32_at.Tie as tie
+
+returns : tie.Need-returns
+returns c =
+    let args = c .before .before .before .args in
+    rw (number-split (args .bytes .now) 2 2 (args .at) (omega arith), c .u16-at2 .ensures, c .before .u16-at .ensures)
+
+pub u32-at-spec : {M : Type 1} → statement M
+u32-at-spec =
+    tie.close
+    (tie.spec
+    (λ c κs. search needs)
+    (λ c. search needs)
+    (λ c κs. search needs)
+    (λ c. search needs)
+    (λ c. search needs)
+    (λ c. search needs)
+    (λ c. search needs)
+    returns)

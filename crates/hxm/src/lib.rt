@@ -1,0 +1,149 @@
+// The mesh file HXM, version 1.
+ghost use mathlib.Core.Path.{_≡_};
+ghost use mathlib.Core.List.{_++_};
+ghost use Prim.Native.Nat.{_+_, _*_, _<_, _≤_};
+ghost use lib.ListN.{length, drop};
+ghost use Rattle.numbers.specs.Little.{numberAt, numbersAt};
+ghost use Rattle.cell.specs.Faults.{firstFault};
+ghost use Rattle.hxm.specs.Format.{marked, meshOf};
+ghost use Rattle.hxm.specs.Reads.{told, counts, meshInto, Reads};
+
+// How many nodes and cells a file holds, or a refusal's number.
+pub enum Reading {
+    Mesh(u32, u32),
+    Refused(u32),
+}
+
+fn wide(byte: u8) -> u16
+    ensures { λ r. ⌜ (r ≡ byte) × (r < 256) ⌝ }
+{
+    byte as u16
+}
+
+// The numbers of two, four and eight bytes, the lowest first.
+fn u16_at(bytes: &[u8], at: usize) -> u16
+    requires { ⌜ at + 2 ≤ length (now bytes) ⌝ }
+    ensures { λ r. ⌜ r ≡ numberAt (now (bytes .entry)) 2 at ⌝ }
+{
+    let low = wide(bytes[at]);
+    let high = wide(bytes[at + 1]);
+    low + 256 * high
+}
+
+fn u32_at(bytes: &[u8], at: usize) -> u32
+    requires { ⌜ at + 4 ≤ length (now bytes) ⌝ }
+    ensures { λ r. ⌜ r ≡ numberAt (now (bytes .entry)) 4 at ⌝ }
+{
+    let low = u16_at(bytes, at);
+    let high = u16_at(bytes, at + 2);
+    (low as u32) + 65536 * (high as u32)
+}
+
+fn u64_at(bytes: &[u8], at: usize) -> u64
+    requires { ⌜ at + 8 ≤ length (now bytes) ⌝ }
+    ensures { λ r. ⌜ r ≡ numberAt (now (bytes .entry)) 8 at ⌝ }
+{
+    let low = u32_at(bytes, at);
+    let high = u32_at(bytes, at + 4);
+    (low as u64) + 4294967296 * (high as u64)
+}
+
+// Whether the file begins with its mark.
+fn marked(bytes: &[u8]) -> bool
+    requires { ⌜ 3 ≤ length (now bytes) ⌝ }
+    ensures { λ r. ⌜ r ≡ marked (now (bytes .entry)) ⌝ }
+{
+    (bytes[0] == b'H') & (bytes[1] == b'X') & (bytes[2] == b'M')
+}
+
+// Writes `count` numbers of eight bytes each, which begin at `at`.
+fn put_words(bytes: &[u8], at: usize, count: usize, out: &mut [u64])
+    requires { ⌜ (at + 8 * count ≤ length (now bytes)) × (count ≤ length (now out)) ⌝ }
+    ensures { λ _. ⌜ now (out .exit) ≡ numbersAt (now (bytes .entry)) 8 at count ++ drop count (now (out .entry)) ⌝ }
+{
+    let mut i: usize = 0;
+    while i < count {
+        out[i] = u64_at(bytes, at + 8 * i);
+        i += 1;
+    }
+}
+
+// Writes `count` numbers of four bytes each, which begin at `at`.
+fn put_numbers(bytes: &[u8], at: usize, count: usize, out: &mut [u32])
+    requires { ⌜ (at + 4 * count ≤ length (now bytes)) × (count ≤ length (now out)) ⌝ }
+    ensures { λ _. ⌜ now (out .exit) ≡ numbersAt (now (bytes .entry)) 4 at count ++ drop count (now (out .entry)) ⌝ }
+{
+    let mut i: usize = 0;
+    while i < count {
+        out[i] = u32_at(bytes, at + 4 * i);
+        i += 1;
+    }
+}
+
+// The first fault of the cells whose `count` numbers begin at `at`. They are looked at in a copy, so that a refusal leaves the lent lists alone.
+fn fault_at(bytes: &[u8], at: usize, count: usize, n: u32) -> u32
+    requires { ⌜ (at + 4 * count ≤ length (now bytes)) × (count ≤ 1024) ⌝ }
+    ensures { λ r. ⌜ r ≡ firstFault n 8 (numbersAt (now (bytes .entry)) 4 at count) ⌝ }
+{
+    let mut corners = [0u32; 1024];
+    put_numbers(bytes, at, count, &mut corners);
+    faults::first_fault(n, &corners[..count])
+}
+
+// What the file holds, whatever lists are lent.
+fn judge(bytes: &[u8]) -> Reading
+    ensures { λ r. ⌜ told r ≡ counts (meshOf (now (bytes .entry))) ⌝ }
+{
+    if bytes.len() < 13 {
+        return Reading::Refused(13);
+    }
+    let mark = marked(bytes);
+    let version = u16_at(bytes, 3);
+    let n = u32_at(bytes, 5);
+    let c = u32_at(bytes, 9);
+    if !mark {
+        return Reading::Refused(11);
+    }
+    if version != 1 {
+        return Reading::Refused(12);
+    }
+    if n > 1024 {
+        return Reading::Refused(7);
+    }
+    if c > 128 {
+        return Reading::Refused(7);
+    }
+    let cells_from = 13 + 24 * (n as usize);
+    let end = cells_from + 32 * (c as usize);
+    if bytes.len() != end {
+        return Reading::Refused(13);
+    }
+    let fault = fault_at(bytes, cells_from, 8 * (c as usize), n);
+    if fault != 0 {
+        return Reading::Refused(fault);
+    }
+    Reading::Mesh(n, c)
+}
+
+// Reads a mesh into the lent lists: three words a node, eight numbers a cell.
+pub fn read(bytes: &[u8], nodes: &mut [u64], cells: &mut [u32]) -> Reading
+    ensures { λ r. ⌜ Reads (meshInto (length (now (nodes .entry))) (length (now (cells .entry))) (now (bytes .entry))) r
+        (now (nodes .entry)) (now (nodes .exit)) (now (cells .entry)) (now (cells .exit)) ⌝ }
+{
+    match judge(bytes) {
+        Reading::Mesh(n, c) => {
+            let coords = 3 * (n as usize);
+            let corners = 8 * (c as usize);
+            if nodes.len() < coords {
+                return Reading::Refused(8);
+            }
+            if cells.len() < corners {
+                return Reading::Refused(8);
+            }
+            put_words(bytes, 13, coords, &mut *nodes);
+            put_numbers(bytes, 13 + 24 * (n as usize), corners, &mut *cells);
+            Reading::Mesh(n, c)
+        }
+        Reading::Refused(k) => Reading::Refused(k),
+    }
+}
