@@ -1,0 +1,78 @@
+-- `kids::put_digits` meets its contract: the digits before the last, of which there are fewer, and then the last. Assumes nothing.
+use Prim.Native.Nat.{ℕ, _-_, _/_, _<_}
+use native.Mathlib.Omega.{arith}
+use mathlib.Core.Path.{_≡_, sym}
+use mathlib.Core.List.{[], _∷_, _++_}
+use borrow.Author.Needs.{needs}
+use borrow.Fn.Kinds.{In}
+use borrow.Fn.PlainCycle.{Measures, is, falls, and}
+use Rattle.kids.specs.Text.{decimalIn}
+use Rattle.kids.proofs.Writing.{wrote-then, decimal-last, decimal-more, fewer-digits}
+use Rattle.kids.proofs.put_digits.Reads as put-digits
+use Rattle.kids.proofs.put_digits.Kinds as put-digits-kinds
+use Rattle.kids.proofs.+put_digits.Lts-put_digits as put-digits-lts
+use Rattle.kids.proofs.digit.Reads as digit-reads
+use Rattle.kids.proofs.put_byte.Reads as put-byte-reads
+use Rattle.kids.proofs.+put_digits.{statement}
+use Rattle.kids.proofs.+put_digits.Tie.{close}
+
+abbrev μ-put-digits : Measures 1 put-digits-kinds.ps ℕ
+μ-put-digits κs a = a .1 .1 .1 .0
+
+abbrev put-digits-at : ℕ → In 1 put-digits-kinds.ps
+put-digits-at t = and 1 put-digits-kinds.ps (is 1 put-digits-kinds.ps μ-put-digits t) put-digits.Pre
+
+abbrev put-digits-below : ℕ → In 1 put-digits-kinds.ps
+put-digits-below t = and 1 put-digits-kinds.ps (falls 1 put-digits-kinds.ps _<_ μ-put-digits t) put-digits.Pre
+
+module _ (t : ℕ) where
+  abbrev claims : put-digits-lts.Claims
+  claims = (digit-reads.Asked, digit-reads.Learnt, put-byte-reads.Asked, put-byte-reads.Learnt, put-digits-below t, put-digits.Post)
+
+  returns : put-digits-lts.Need-returns claims (put-digits-at t) put-digits.Post
+  returns c =
+      let digit = c .before .before .before in
+      let start = digit .before .before .before .before in
+      let text : digit .digit .result ∷ [] ≡ decimalIn (start .args .k) (start .args .x) =
+      rw (digit .digit .ensures) (sym (decimal-last (start .args .k) (start .args .x) (start .pre .1 .0) (omega arith)))
+      in
+      (rw text at (c .before .before .put-byte .ensures), omega (arith, c .before .before .put-byte .ensures .ends))
+
+  put-digits-requires : put-digits-lts.Need-put-digits-requires claims (put-digits-at t) put-digits.Post
+  put-digits-requires c κs =
+      let start = c .before .before .before in
+      let fewer = fewer-digits (start .args .k) (start .args .x) (start .pre .1 .1) (omega arith) in
+      (omega (arith, start .pre .0), (fewer .0, fewer .1, omega arith))
+
+  put-byte-requires-2 : put-digits-lts.Need-put-byte-requires-2 claims (put-digits-at t) put-digits.Post
+  put-byte-requires-2 c κs =
+      let put = c .before .before .before .before in
+      omega (arith, put .put-digits .ensures .0 .keeps, put .put-digits .ensures .1)
+
+  returns-2 : put-digits-lts.Need-returns-2 claims (put-digits-at t) put-digits.Post
+  returns-2 c =
+      let last = c .before .before in
+      let digit = last .before in
+      let put = digit .before .before .before .before in
+      let start = put .before .before .before .before in
+      let text : decimalIn (start .args .k - 1) (start .args .x / 10) ++ (digit .digit2 .result ∷ []) ≡ decimalIn (start .args .k) (start .args .x) =
+      rw (digit .digit2 .ensures) (sym (decimal-more (start .args .k) (start .args .x) (start .pre .1 .0) (omega arith)))
+      in
+      (rw text at (wrote-then _ _ _ _ _ _ _ _ (put .put-digits .ensures .0) (last .put-byte2 .ensures)), omega (arith, put .put-digits .ensures .1, last .put-byte2 .ensures .ends))
+
+pub +put-digits-spec : {M : Type 1} → statement M
++put-digits-spec =
+    close μ-put-digits λ t. put-digits-lts.spec
+    (claims t)
+    (put-digits-at t)
+    put-digits.Post
+    (λ c κs. search needs)
+    (λ c κs. search needs)
+    (λ c. search needs)
+    (returns t)
+    (λ c. search needs)
+    (put-digits-requires t)
+    (λ c κs. search needs)
+    (put-byte-requires-2 t)
+    (λ c. search needs)
+    (returns-2 t)

@@ -1,0 +1,43 @@
+-- `kids::put_children` meets its contract: what `refine` answers is reported. Assumes nothing.
+use mathlib.Core.Path.{ap}
+use borrow.Author.Needs.{needs}
+use Rattle.refine.specs.Refine.{told}
+use Rattle.kids.proofs.Writing.{wrote-as}
+use Rattle.kids.proofs.Report.{reported, refused-kids}
+use Rattle.kids.proofs.put_children.Statement.{statement}
+use Rattle.kids.proofs.put_children.Tie as tie
+
+returns : tie.Need-returns
+returns c =
+    let put = c .before .before in
+    let next = put .before .before .before .before in
+    let refined = next .before .before .before in
+    let args = refined .before .before .before .before .args in
+    let text = reported (args .n) (args .cells .now) _ _ _ _ (ap told (next .next .given .1)) (refined .refine .ensures .0) (refined .refine .ensures .1) in
+    wrote-as _ _ _ _ _ _ text (put .put-report .ensures)
+
+returns-2 : tie.Need-returns-2
+returns-2 c =
+    let put = c .before .before in
+    let k = put .before .before .before in
+    let refined = k .before .before .before in
+    let args = refined .before .before .before .before .args in
+    let text = refused-kids (args .n) (args .cells .now) _ _ (ap told (k .k .given .1)) (refined .refine .ensures .0) in
+    wrote-as _ _ _ _ _ _ text (put .put-refused .ensures)
+
+pub put-children-spec : {M : Type 1} → statement M
+put-children-spec =
+    tie.close
+    (tie.spec
+    (λ c. search needs)
+    (λ c. search needs)
+    (λ c κs. search needs)
+    (λ c. search needs)
+    (λ c. search needs)
+    (λ c κs. search needs)
+    (λ c. search needs)
+    (λ c κs. search needs)
+    (λ c. search needs)
+    returns
+    (λ c. search needs)
+    returns-2)

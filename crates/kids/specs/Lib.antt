@@ -1,0 +1,2 @@
+pub mod Kids
+pub mod Text
