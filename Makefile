@@ -23,4 +23,4 @@ compare: $(ARCHIVE)
 second: $(ARCHIVE)
 	mkdir -p target/second
 	cc -std=c99 -Wall -Wextra -pedantic -O2 -Iinclude -DSECOND_OWN_TYPES oracle/second/drive.c $(ARCHIVE) -o target/second/drive
-	python3 oracle/second/second.py --cases $(CASES) --seed $(SEED) --only check,locate_checked | target/second/drive --partial
+	python3 oracle/second/second.py --cases $(CASES) --seed $(SEED) --only check,locate_checked,refine,descendant,hxm_read | target/second/drive --partial

@@ -90,6 +90,24 @@ uint32_t isn_hex_check(const double corners[24], const double at[3], double tole
  * as in the locator, then 6 too far. */
 uint32_t isn_hex_locate_checked(const double corners[24], double tolerance, double at[3]);
 
+/* Mesh. A mesh is a count of nodes and a list of cells, eight node numbers each. Buffers of one call do not overlap. */
+
+/* Cuts every cell in eight: out = 64 numbers a cell, eight a child, behind one another in the order of the cells; the rest of out stays as it
+ * was. Edge middles, face middles and centres are numbered from n up in the order in which they are first met; an edge or a face that cells share
+ * has one number. next = the next free number. Refusals: 7 n is above 1,024, or the list holds more than 1,024 numbers; 8 the list is not whole
+ * cells, or out is shorter than 64 a cell; then cell by cell 9 a node number is not below n, 10 a node stands twice in one cell. */
+uint32_t isn_refine(uint32_t n, const uint32_t *cells, size_t cells_len, uint32_t *out, size_t out_len, uint32_t next[1]);
+
+/* out = the place of a corner of the descendant that a path of octants leads to, in units of 2^-path_len, where the first cell is [-1,1] on each
+ * axis. Refusals: 7 more than 20 octants; 9 an octant or the corner is above 7. */
+uint32_t isn_descendant(const uint32_t *path, size_t path_len, uint32_t corner, int32_t out[3]);
+
+/* Reads a mesh file, HXM version 1: nodes = the bit patterns of three doubles a node, cells = eight numbers a cell, counts = how many nodes and
+ * cells; the rest of both lists stays as it was. Refusals: 13 under 13 bytes; 11 the mark is not HXM; 12 the version is not 1; 7 more than 1,024
+ * nodes or 128 cells; 13 the length is not what the counts say; then cell by cell 9 and 10 as in isn_refine; 8 a lent list is too short. */
+uint32_t isn_hxm_read(const uint8_t *bytes, size_t bytes_len, uint64_t *nodes, size_t nodes_len, uint32_t *cells, size_t cells_len,
+                      uint32_t counts[2]);
+
 /* Prism. A place is r >= 0, s >= 0, r + s <= 1 in the triangle, t in [0,1] upward. */
 
 /* out = the six shape values at pco. Answers 0. */

@@ -1,6 +1,8 @@
 -- What an entry answers. Document 01: "A refusal returns its number and no other data." Definitions only.
 use Prim.Native.Nat.{ℕ}
 use mathlib.Core.Path.{_≡_}
+use mathlib.Core.List.{List, _++_}
+use lib.ListN.{length, drop}
 
 -- the values, or a refusal's number
 pub data Answer (A : Type 0) : Type 0 where
@@ -25,3 +27,8 @@ Wrote (refused n) r old new = (r ≡ n) × (new ≡ old)
 abbrev pub numberOf : {A : Type 0} → Answer A → ℕ
 numberOf (answered a) = 0
 numberOf (refused n) = n
+
+-- what is left of a lent list: "A refusal .. leaves lent buffers untouched. A success writes only what its rule names; the rest of an output keeps what it held."
+abbrev pub left : {A : Type 0} → Answer (List A) → List A → List A
+left (answered new) old = new ++ drop (length new) old
+left (refused n) old = old

@@ -2,10 +2,9 @@
 use Prim.Native.Nat.{ℕ, _*_}
 use mathlib.Core.Path.{_≡_}
 use mathlib.Core.Bool.{_||_, cond}
-use mathlib.Core.List.{List, [], _∷_, _++_}
+use mathlib.Core.List.{List, [], _∷_}
 use lib.Dec.{ltb}
-use lib.ListN.{length, drop}
-use Rattle.binary64.specs.Answer.{Answer, answered, refused, andThen, LosesNothing}
+use Rattle.binary64.specs.Answer.{Answer, answered, refused, andThen, left, LosesNothing}
 use Rattle.hxm.specs.Format.{Mesh, meshOf}
 use Rattle.hxm.specs.declared.Reading.{Reading}
 use Rattle.hxm.specs.declared.Reading.the-variants.{Mesh as Counts, Refused}
@@ -23,16 +22,17 @@ told (Refused k) = refused k
 abbrev pub counts : Answer Mesh → Answer (List ℕ)
 counts found = andThen found (λ (m : Mesh). answered (m .nodes ∷ m .cells ∷ []))
 
--- "A refusal .. leaves lent buffers untouched. A success writes only what its rule names; the rest of an output keeps what it held."
-abbrev pub left : (Mesh → List ℕ) → Answer Mesh → List ℕ → List ℕ
-left part (answered m) old = part m ++ drop (length (part m)) old
-left part (refused k) old = old
+abbrev pub coordsOf : Answer Mesh → Answer (List ℕ)
+coordsOf found = andThen found (λ (m : Mesh). answered (m .coords))
+
+abbrev pub cornersOf : Answer Mesh → Answer (List ℕ)
+cornersOf found = andThen found (λ (m : Mesh). answered (m .corners))
 
 -- the answer r to what was found, and the lists of nodes and cells before and behind the call
 pub record Reads (found : Answer Mesh) (r : Reading) (nodes nodes′ cells cells′ : List ℕ) : Type 0 where
   pub answer : told r ≡ counts found
-  pub nodesLeft : nodes′ ≡ left (λ (m : Mesh). m .coords) found nodes
-  pub cellsLeft : cells′ ≡ left (λ (m : Mesh). m .corners) found cells
+  pub nodesLeft : nodes′ ≡ left (coordsOf found) nodes
+  pub cellsLeft : cells′ ≡ left (cornersOf found) cells
 
 -- So the contract leaves one possible answer.
 abbrev pub ToldLosesNothing : Type 0

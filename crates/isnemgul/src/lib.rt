@@ -3,15 +3,19 @@
 use cell::Located;
 use cell::Measured;
 use cell::Point;
+use descendant::Descended;
 use hex_gradient::Outcome;
 use hex_gradient::WeightedGradient;
 use hex_iso::IsoMask;
 use hex_iso::IsoPosition;
+use hxm::Reading;
 use mat3_col_major::Inverse;
 use probe::Checked;
 use probe::Verdict;
+use refine::Refined;
 ghost use mathlib.Core.Path.{_≡_};
-ghost use Rattle.binary64.specs.Answer.{Wrote, numberOf};
+ghost use lib.ListN.{length};
+ghost use Rattle.binary64.specs.Answer.{Wrote, left, numberOf};
 ghost use Rattle.mat3_col_major.specs.Mat3.{transposed, product, det, inverse, told as inverseTold};
 ghost use Rattle.cell.specs.Newton.{told};
 ghost use Rattle.cell.specs.Points.{told as volumeTold};
@@ -27,6 +31,9 @@ ghost use Rattle.prism.specs.Shape as Prism;
 ghost use Rattle.prism_locate.specs.Locate.{located as prismLocated};
 ghost use Rattle.prism_volume.specs.Volume.{volumeAnswer as prismVolume};
 ghost use Rattle.prism_children.specs.Children.{children as prismChildren};
+ghost use Rattle.descendant.specs.Place.{descended, told as descendedTold};
+ghost use Rattle.hxm.specs.Reads.{told as readingTold, counts as countsOf, coordsOf, cornersOf, meshInto};
+ghost use Rattle.refine.specs.Refine.{refined, outputAfter, told as refinedTold};
 
 fn wide(x: u32) -> usize
     ensures { λ r. ⌜ r ≡ x ⌝ }
@@ -129,6 +136,42 @@ fn put_checked(found: Checked, at: &mut [f64; 3]) -> u32
             0
         }
         Checked::Refused(n) => n,
+    }
+}
+
+fn put_descended(found: Descended, out: &mut [i32; 3]) -> u32
+    ensures { λ r. ⌜ Wrote (descendedTold found) r (now (out .entry)) (now (out .exit)) ⌝ }
+{
+    match found {
+        Descended::At(x, y, z) => {
+            *out = [x, y, z];
+            0
+        }
+        Descended::Refused(n) => n,
+    }
+}
+
+fn put_refined(found: Refined, next: &mut u32) -> u32
+    ensures { λ r. ⌜ Wrote (refinedTold found) r (now (next .entry)) (now (next .exit)) ⌝ }
+{
+    match found {
+        Refined::Next(free) => {
+            *next = free;
+            0
+        }
+        Refined::Refused(n) => n,
+    }
+}
+
+fn put_reading(found: Reading, counts: &mut [u32; 2]) -> u32
+    ensures { λ r. ⌜ Wrote (readingTold found) r (now (counts .entry)) (now (counts .exit)) ⌝ }
+{
+    match found {
+        Reading::Mesh(nodes, cells) => {
+            *counts = [nodes, cells];
+            0
+        }
+        Reading::Refused(n) => n,
     }
 }
 
@@ -391,4 +434,33 @@ pub extern "C" fn isn_prism_subdivide(
 {
     *out = prism_children::subdivide(*corner, *edge, *quad);
     0
+}
+
+#[no_mangle]
+pub extern "C" fn isn_refine(n: u32, cells: &[u32], out: &mut [u32], next: &mut u32) -> u32
+    ensures answer { λ r. ⌜ Wrote (refined n (now (cells .entry)) (length (now (out .entry)))) r (now (next .entry)) (now (next .exit)) ⌝ }
+    ensures output { λ _. ⌜ now (out .exit) ≡ outputAfter (refined n (now (cells .entry)) (length (now (out .entry)))) n (now (cells .entry)) (now (out .entry)) ⌝ }
+{
+    put_refined(refine::refine(n, cells, out), next)
+}
+
+#[no_mangle]
+pub extern "C" fn isn_descendant(path: &[u32], corner: u32, out: &mut [i32; 3]) -> u32
+    ensures { λ r. ⌜ Wrote (descended (now (path .entry)) corner) r (now (out .entry)) (now (out .exit)) ⌝ }
+{
+    put_descended(descendant::descendant(path, corner), out)
+}
+
+#[no_mangle]
+pub extern "C" fn isn_hxm_read(
+    bytes: &[u8],
+    nodes: &mut [u64],
+    cells: &mut [u32],
+    counts: &mut [u32; 2],
+) -> u32
+    ensures answer { λ r. ⌜ Wrote (countsOf (meshInto (length (now (nodes .entry))) (length (now (cells .entry))) (now (bytes .entry)))) r (now (counts .entry)) (now (counts .exit)) ⌝ }
+    ensures coords { λ _. ⌜ now (nodes .exit) ≡ left (coordsOf (meshInto (length (now (nodes .entry))) (length (now (cells .entry))) (now (bytes .entry)))) (now (nodes .entry)) ⌝ }
+    ensures corners { λ _. ⌜ now (cells .exit) ≡ left (cornersOf (meshInto (length (now (nodes .entry))) (length (now (cells .entry))) (now (bytes .entry)))) (now (cells .entry)) ⌝ }
+{
+    put_reading(hxm::read(bytes, nodes, cells), counts)
 }

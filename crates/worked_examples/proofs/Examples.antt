@@ -4,8 +4,9 @@ use lib.Ieee.{add, sub, mul, div, neg, ofBits, le, lt, eq}
 use Rattle.hex.specs.Shape.{imageAt}
 use Rattle.hex_iso.specs.Cut.{maskOf}
 use Rattle.probe.specs.Check.{goodCorners, checked}
+use Rattle.descendant.specs.Place.{sign, place, descended}
 use Rattle.worked_examples.specs.Examples.{ExamplesHold}
 
 pub examples-hold : ExamplesHold
-unfolding add sub mul div neg ofBits le lt eq maskOf imageAt goodCorners checked
+unfolding add sub mul div neg ofBits le lt eq maskOf imageAt goodCorners checked sign place descended
 examples-hold = refl

@@ -5,6 +5,7 @@ use mathlib.Core.Bool.{cond}
 use mathlib.Core.List.{List, [], _∷_, map}
 use lib.Dec.{eqb}
 use lib.Ieee.{Float, binary64, ofBits}
+use lib.IntN.{ℤ, pos, negsuc}
 use lib.ListN.{set}
 use Rattle.numbers.specs.Rule.{tabulate, grid}
 use Rattle.binary64.specs.Binary64.{f0, f1, m1}
@@ -15,11 +16,13 @@ use Rattle.prism.specs.Shape as Prism
 use Rattle.hex_iso.specs.Cut.{isoMask}
 use Rattle.hex_iso.specs.Position.{isoPosition}
 use Rattle.probe.specs.Check.{checked}
+use Rattle.descendant.specs.Place.{descended}
 
--- what an entry answers: floats, a whole number, or an acceptance
+-- what an entry answers: floats, a whole number, a place in whole numbers, or an acceptance
 pub data Said : Type 0 where
   floats : Answer (List Float) → Said
   number : Answer ℕ → Said
+  place : Answer (List ℤ) → Said
   verdict : Answer (Unit {0}) → Said
 
 -- the paper's number, what the definition gives, and what the paper says
@@ -97,6 +100,9 @@ examples =
     ∷ example 10 (verdict (checked cube (at f0) minusZero)) accepted
     -- "P11 Edge position, centre 0, half width 1, nodes 0 and 1, values -1 and 3: (-0.5, -1, -1)."
     ∷ example 11 (floats (isoPosition (f0 ∷ f0 ∷ f0 ∷ []) f1 0 1 m1 three)) (floats (answered (minusHalf ∷ m1 ∷ m1 ∷ [])))
+    -- "P12 Path (6), corner 0: (0,0,0). Path empty, corner 1: (1,-1,-1)."
+    ∷ example 12 (place (descended (6 ∷ []) 0)) (place (answered (pos 0 ∷ pos 0 ∷ pos 0 ∷ [])))
+    ∷ example 12 (place (descended [] 1)) (place (answered (pos 1 ∷ negsuc 0 ∷ negsuc 0 ∷ [])))
     ∷ []
 
 -- "The P examples are one list with a single proved claim on the definitions"
