@@ -363,7 +363,7 @@ pub extern "C" fn isn_hex_check(corners: &[f64; 24], at: &[f64; 3], tolerance: f
         y: at[1],
         z: at[2],
     };
-    put_verdict(probe::check(*corners, place, tolerance))
+    put_verdict(probe::judge(corners, place, tolerance))
 }
 
 #[no_mangle]

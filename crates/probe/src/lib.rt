@@ -37,8 +37,8 @@ fn good_corner(x: f64) -> bool
     (x == 0.0) | ((LEAST <= x) & (x <= MOST)) | ((LEAST <= -x) & (-x <= MOST))
 }
 
-fn good_corners(p: [f64; 24]) -> bool
-    ensures { λ r. ⌜ r ≡ goodCorners p ⌝ }
+fn good_corners(p: &[f64; 24]) -> bool
+    ensures { λ r. ⌜ r ≡ goodCorners (now (p .entry)) ⌝ }
 {
     let mut good = true;
     for i in 0..24usize {
@@ -68,16 +68,16 @@ fn near_on(x: f64, t: f64) -> bool
 }
 
 // Whether the image of a place is within the tolerance of the origin, on each axis.
-fn near(p: [f64; 24], pco: [f64; 3], t: f64) -> bool
-    ensures { λ r. ⌜ r ≡ near p pco t ⌝ }
+fn near(p: &[f64; 24], pco: [f64; 3], t: f64) -> bool
+    ensures { λ r. ⌜ r ≡ near (now (p .entry)) pco t ⌝ }
 {
-    let x = hex::image(p, pco);
+    let x = hex::image(*p, pco);
     near_on(x[0], t) & near_on(x[1], t) & near_on(x[2], t)
 }
 
-// The check's refusals in their order: 3, 4, 5, 6. What their passing means stands at `check`.
-fn judge(corners: [f64; 24], at: Point, tolerance: f64) -> Verdict
-    ensures { λ r. ⌜ told r ≡ checked corners (coords at) tolerance ⌝ }
+// The check of corners that are lent: its refusals in their order, 3, 4, 5, 6. What their passing means stands at `check`.
+pub fn judge(corners: &[f64; 24], at: Point, tolerance: f64) -> Verdict
+    ensures { λ r. ⌜ told r ≡ checked (now (corners .entry)) (coords at) tolerance ⌝ }
 {
     if !good_corners(corners) {
         return Verdict::Refused(3);
@@ -102,7 +102,7 @@ pub fn check(corners: [f64; 24], at: Point, tolerance: f64) -> Verdict
     ensures complete { λ r. ⌜ (T (goodCorners corners) → T (goodTolerance tolerance) → T (inside (coords at))
         → AtMostTMinusE corners (coords at) tolerance → r ≡ Verdict.Accepted) ⌝ }
 {
-    judge(corners, at, tolerance)
+    judge(&corners, at, tolerance)
 }
 
 // A located place is kept where its image is near.
@@ -111,7 +111,7 @@ fn kept(p: [f64; 24], found: Located, t: f64) -> Checked
 {
     match found {
         Located::Inside(a, b, c) => {
-            if !near(p, [a, b, c], t) {
+            if !near(&p, [a, b, c], t) {
                 return Checked::Refused(6);
             }
             Checked::Inside(a, b, c)
@@ -125,7 +125,7 @@ fn kept(p: [f64; 24], found: Located, t: f64) -> Checked
 fn locate(corners: [f64; 24], tolerance: f64) -> Checked
     ensures { λ r. ⌜ placeTold r ≡ locatedChecked corners tolerance ⌝ }
 {
-    if !good_corners(corners) {
+    if !good_corners(&corners) {
         return Checked::Refused(3);
     }
     if !good_tolerance(tolerance) {

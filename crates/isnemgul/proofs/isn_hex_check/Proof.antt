@@ -9,7 +9,7 @@ use Rattle.isnemgul.proofs.isn_hex_check.Tie as tie
 
 returns : tie.Need-returns
 unfolding checked imageAt
-returns c = c .put-verdict .ensures ∙ ap numberOf (c .before .check .ensures .0)
+returns c = c .put-verdict .ensures ∙ ap numberOf (c .before .judge .ensures)
 
 pub isn-hex-check-spec : {M : Type 1} → statement M
 isn-hex-check-spec =

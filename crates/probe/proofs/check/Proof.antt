@@ -10,9 +10,9 @@ use Rattle.probe.proofs.check.Tie as tie
 
 returns : tie.Need-returns
 returns c =
-    let start = c .before in
-    check-promises (start .args .corners) (start .args .at) (start .args .tolerance) (c .judge .result)
-    (array-fits binary64 24 (start .args .corners) _ (start .good .0)) (point-fits (start .args .at) _ (start .good .1 .0))
+    let start = c .before .before in
+    check-promises (start .args .t1) (start .args .at) (start .args .tolerance) (c .judge .result)
+    (array-fits binary64 24 (start .args .t1) _ (start .good .0)) (point-fits (start .args .at) _ (start .good .1 .0))
     (passes _ (start .good .1 .1 .0 .1)) (c .judge .ensures)
 
 pub check-spec : {M : Type 1} → statement M

@@ -17,7 +17,7 @@ abbrev μ-loop : tie.MeasureT-loop
 μ-loop p good₀ i₀ good i = 24 - i
 
 loop-again : tie.Need-loop-again Inv-loop μ-loop
-loop-again c = (omega arith, rw (add-one, ← c .before .before .loop .inv .1, c .good-corner .ensures))
+loop-again c = (omega arith, rw (add-one, ← c .before .before .before .loop .inv .1, c .good-corner .ensures))
 
 returns : tie.Need-returns Inv-loop μ-loop
 unfolding goodCorners

@@ -5,12 +5,12 @@ use Rattle.probe.proofs.kept.Tie as tie
 
 returns : tie.Need-returns
 returns c =
-    let inside = c .before .before .before in
+    let inside = c .before .before .before .before in
     simp (inside .found .given .1, ← c .before .near .ensures, c .if1 .taken)
 
 returns-2 : tie.Need-returns-2
 returns-2 c =
-    let inside = c .before .before .before in
+    let inside = c .before .before .before .before in
     simp (inside .found .given .1, ← c .before .near .ensures, c .if1 .left)
 
 pub kept-spec : {M : Type 1} → statement M
