@@ -22,5 +22,5 @@ compare: $(ARCHIVE)
 # The additions against an independent second program in Python.
 second: $(ARCHIVE)
 	mkdir -p target/second
-	cc -std=c99 -Wall -Wextra -pedantic -O2 -Iinclude -DSECOND_OWN_TYPES oracle/second/drive.c $(ARCHIVE) -o target/second/drive
-	python3 oracle/second/second.py --cases $(CASES) --seed $(SEED) --only check,locate_checked,refine,descendant,hxm_read | target/second/drive --partial
+	cc -std=c99 -Wall -Wextra -pedantic -O2 -Iinclude oracle/second/drive.c $(ARCHIVE) -o target/second/drive
+	python3 oracle/second/second.py --cases $(CASES) --seed $(SEED) | target/second/drive

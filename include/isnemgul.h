@@ -90,6 +90,22 @@ uint32_t isn_hex_check(const double corners[24], const double at[3], double tole
  * as in the locator, then 6 too far. */
 uint32_t isn_hex_locate_checked(const double corners[24], double tolerance, double at[3]);
 
+/* A place in the cell: three coordinates. */
+typedef struct isn_point {
+    double x, y, z;
+} isn_point;
+
+/* A proposed place, and how far its image may be from the probe on each axis. */
+typedef struct isn_proposal {
+    isn_point at;
+    double tolerance;
+} isn_proposal;
+
+/* Judges each proposal of a list as isn_hex_check does: out[i] = 0 or the refusal's number of proposal i, and accepted = how many of these are 0.
+ * The rest of out keeps what it held. Refusals: 7 over 256 proposals; 8 out is shorter than the list. */
+uint32_t isn_hex_check_proposals(const double corners[24], const isn_proposal *list, size_t list_len, uint32_t *out, size_t out_len,
+                                 uint32_t accepted[1]);
+
 /* Mesh. A mesh is a count of nodes and a list of cells, eight node numbers each. Buffers of one call do not overlap. */
 
 /* Cuts every cell in eight: out = 64 numbers a cell, eight a child, behind one another in the order of the cells; the rest of out stays as it

@@ -12,6 +12,8 @@ use hxm::Reading;
 use mat3_col_major::Inverse;
 use probe::Checked;
 use probe::Verdict;
+use proposals::Judged;
+use proposals::Proposal;
 use refine::Refined;
 ghost use mathlib.Core.Path.{_≡_};
 ghost use lib.ListN.{length};
@@ -27,6 +29,7 @@ ghost use Rattle.hex_iso.specs.Cut.{isoMask, maskTold};
 ghost use Rattle.hex_iso.specs.Position.{isoPosition, isoEdges, positionTold};
 ghost use Rattle.hex_children.specs.Children.{children as hexChildren};
 ghost use Rattle.probe.specs.Check.{checked, locatedChecked, told as verdictTold, placeTold};
+ghost use Rattle.proposals.specs.Judgements.{judgements, zerosIn, told as judgedTold};
 ghost use Rattle.prism.specs.Shape as Prism;
 ghost use Rattle.prism_locate.specs.Locate.{located as prismLocated};
 ghost use Rattle.prism_volume.specs.Volume.{volumeAnswer as prismVolume};
@@ -136,6 +139,18 @@ fn put_checked(found: Checked, at: &mut [f64; 3]) -> u32
             0
         }
         Checked::Refused(n) => n,
+    }
+}
+
+fn put_judged(found: Judged, accepted: &mut u32) -> u32
+    ensures { λ r. ⌜ Wrote (judgedTold found) r (now (accepted .entry)) (now (accepted .exit)) ⌝ }
+{
+    match found {
+        Judged::Accepted(n) => {
+            *accepted = n;
+            0
+        }
+        Judged::Refused(n) => n,
     }
 }
 
@@ -375,6 +390,19 @@ pub extern "C" fn isn_hex_locate_checked(
     ensures { λ r. ⌜ Wrote (locatedChecked (now (corners .entry)) tolerance) r (now (at .entry)) (now (at .exit)) ⌝ }
 {
     put_checked(probe::locate_checked(*corners, tolerance), at)
+}
+
+#[no_mangle]
+pub extern "C" fn isn_hex_check_proposals(
+    corners: &[f64; 24],
+    list: &[Proposal],
+    out: &mut [u32],
+    accepted: &mut u32,
+) -> u32
+    ensures answer { λ r. ⌜ Wrote (zerosIn (judgements (now (corners .entry)) (now (list .entry)) (length (now (out .entry))))) r (now (accepted .entry)) (now (accepted .exit)) ⌝ }
+    ensures output { λ _. ⌜ now (out .exit) ≡ left (judgements (now (corners .entry)) (now (list .entry)) (length (now (out .entry)))) (now (out .entry)) ⌝ }
+{
+    put_judged(proposals::check_proposals(*corners, list, out), accepted)
 }
 
 #[no_mangle]

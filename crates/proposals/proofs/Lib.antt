@@ -1,0 +1,4 @@
+pub mod Corners
+pub mod Told
+pub mod Walk
+pub mod Written

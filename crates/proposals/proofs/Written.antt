@@ -1,0 +1,104 @@
+-- What a loop that writes and counts judgements has done after k turns, and after the last. Assumes nothing.
+use Prim.Native.Nat.{ℕ, zero, suc, _+_, _*_, _≤_, _<_, _^_, zero-le}
+use native.Mathlib.Nat.{le-refl, le-of-lt, lt-trans, lt-of-le-of-lt, mul-le-mul-right, zero-add, not-suc-le-zero, le-of-suc-le-suc}
+use native.Mathlib.Numerals.{add-one}
+use native.Mathlib.Omega.{arith}
+use mathlib.Core.Path.{_≡_, refl, sym, _∙_}
+use mathlib.Core.Bool.{Bool, true, false, not, _||_, cond}
+use mathlib.Core.List.{List, [], _∷_, _++_, map}
+use lib.Dec.{T, eqb, ltb, lit<}
+use lib.ListN.{length, getD, set, take, drop, length-map, List·getD-map}
+use lib.Seq.{length-take-le, length-front, take-length, paste-suc}
+use borrow.Author.Tests.{ltb-false}
+use Rattle.binary64.specs.Answer.{answered, refused, left}
+use Rattle.proposals.specs.Judgements.{unlessRefused, zeros, zerosIn, turnsOf}
+
+-- the place of element i, in bytes, is a usize
+pub place-fits : (i n size : ℕ) → i < n → n * size < 2 ^ 63 → i * size < 2 ^ 64
+place-fits i n size below room = lt-of-le-of-lt (mul-le-mul-right size (le-of-lt below)) (lt-trans room (lit< tt))
+
+-- no more turns than records, numbers that have room, and 256
+pub record Few (n room turns : ℕ) : Type 0 where
+  pub in-list : turns ≤ n
+  pub in-room : turns ≤ room
+  pub small : turns ≤ 256
+
+few-by : (n room : ℕ) (long short : Bool) → ltb 256 n ≡ long → ltb room n ≡ short → Few n room (cond (long || short) 0 n)
+few-by n room true short e f = record { in-list = zero-le; in-room = zero-le; small = zero-le }
+few-by n room false true e f = record { in-list = zero-le; in-room = zero-le; small = zero-le }
+few-by n room false false e f = record { in-list = le-refl n; in-room = ltb-false _ _ f; small = ltb-false _ _ e }
+
+pub few : (n room : ℕ) → Few n room (turnsOf n room)
+unfolding turnsOf
+few n room = few-by n room (ltb 256 n) (ltb room n) refl refl
+
+-- what stands in a list of which the first k numbers are written over
+abbrev pub overwritten : List ℕ → List ℕ → ℕ → List ℕ
+overwritten new old k = take k new ++ drop k old
+
+pub overwritten-long : (new old : List ℕ) (k : ℕ) → k ≤ length new → k ≤ length old → length (overwritten new old k) ≡ length old
+overwritten-long new old k inNew inOld = length-front old (take k new) k (length-take-le k new inNew ∙ sym (length-take-le k old inOld))
+
+counted-more : (js : List ℕ) (k d : ℕ) → k < length js → zeros (take k js) + cond (eqb (getD js k d) 0) 1 0 ≡ zeros (take (suc k) js)
+counted-more [] k d inside = absurd (not-suc-le-zero inside)
+counted-more (j ∷ js) zero d inside = omega arith
+counted-more (j ∷ js) (suc k) d inside = omega (arith, counted-more js k d (le-of-suc-le-suc inside))
+
+one-if : (b : Bool) (m : ℕ) {n : ℕ} → T b → m + cond b 1 0 ≡ n → m + 1 ≡ n
+one-if true m t e = e
+one-if false m t e = absurd t
+
+none-unless : (b : Bool) (m : ℕ) {n : ℕ} → T (not b) → m + cond b 1 0 ≡ n → m ≡ n
+none-unless true m t e = absurd t
+none-unless false m t e = omega arith
+
+one-or-none : (b : Bool) → cond b 1 0 ≤ 1
+one-or-none true = le-refl 1
+one-or-none false = zero-le
+
+counted-below : (js : List ℕ) (k : ℕ) → zeros (take k js) ≤ k
+counted-below js zero = zero-le
+counted-below [] (suc k) = zero-le
+counted-below (j ∷ js) (suc k) = omega (arith, counted-below js k, one-or-none (eqb j 0))
+
+pub count-fits : (js : List ℕ) (k turns : ℕ) → k ≤ turns → turns ≤ 256 → zeros (take k js) + 1 < 2 ^ 32
+count-fits js k turns few small = omega (arith, counted-below js k)
+
+-- one turn more, for the judgements of a list of records
+module _ {A : Type 0} (f : A → ℕ) (xs : List A) (d : A) (k : ℕ) (inside : k < length xs) where
+  pub one-more-written : (old : List ℕ) → k < length old → set (overwritten (map f xs) old k) k (f (getD xs k d)) ≡ overwritten (map f xs) old (k + 1)
+  one-more-written old inOld =
+      rw (← List·getD-map f xs k d, add-one) (simp zero-add at (paste-suc old 0 (map f xs) k (f d) (simp zero-add inOld) (rw length-map inside)))
+
+  one-more-counted : zeros (take k (map f xs)) + cond (eqb (f (getD xs k d)) 0) 1 0 ≡ zeros (take (k + 1) (map f xs))
+  one-more-counted = rw (← List·getD-map f xs k d, add-one) (counted-more (map f xs) k (f d) (rw length-map inside))
+
+  pub zero-counted : T (eqb (f (getD xs k d)) 0) → zeros (take k (map f xs)) + 1 ≡ zeros (take (k + 1) (map f xs))
+  zero-counted t = one-if (eqb (f (getD xs k d)) 0) _ t one-more-counted
+
+  pub none-counted : T (not (eqb (f (getD xs k d)) 0)) → zeros (take k (map f xs)) ≡ zeros (take (k + 1) (map f xs))
+  none-counted t = none-unless (eqb (f (getD xs k d)) 0) _ t one-more-counted
+
+module _ (n room : ℕ) (js : List ℕ) (all : length js ≡ n) where
+  all-taken : take n js ≡ js
+  all-taken = rw (← all) (take-length js)
+
+  -- a refused list has no turn, and the count is then as good as any
+  pub all-counted : unlessRefused n room (zeros (take (turnsOf n room) js)) ≡ zerosIn (unlessRefused n room js)
+  unfolding turnsOf
+  all-counted = by (ltb 256 n) (ltb room n)
+    where
+      by : (y z : Bool) → cond y (refused 7) (cond z (refused 8) (answered (zeros (take (cond (y || z) 0 n) js))))
+          ≡ zerosIn (cond y (refused 7) (cond z (refused 8) (answered js)))
+      by true z = refl
+      by false true = refl
+      by false false = rw all-taken
+
+  pub all-written : (old : List ℕ) → overwritten js old (turnsOf n room) ≡ left (unlessRefused n room js) old
+  unfolding turnsOf
+  all-written old = by (ltb 256 n) (ltb room n)
+    where
+      by : (y z : Bool) → overwritten js old (cond (y || z) 0 n) ≡ left (cond y (refused 7) (cond z (refused 8) (answered js))) old
+      by true z = refl
+      by false true = refl
+      by false false = rw (all-taken, all)
