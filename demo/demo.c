@@ -1,4 +1,5 @@
-/* Where does the thermocouple sit? A probe is buried in a cast block that is meshed by one hexahedron and one prism. */
+/* Where does the thermocouple sit? A probe is buried in a cast block that is meshed by one hexahedron and one prism.
+ * Then a mesh of two hexahedra is refined, and the node numbers of the sixteen children are printed. */
 #include <stdio.h>
 #include "isnemgul.h"
 
@@ -17,7 +18,7 @@ static void say(const char *cell, const double probe[3], uint32_t answer, const 
         printf("refused %u, %s\n", (unsigned)answer, answer == 1 ? "the cell is flat there" : "the probe is outside");
 }
 
-int main(void) {
+static void locate(void) {
     static const double block[24] = {0, 0, 0, 4, 0, 0, 5, 3, 0, 0, 3, 1, 0, 0, 6, 4, 1, 6, 5, 4, 7, 0, 3, 6};
     static const double rib[18] = {4, 0, 0, 7, 0, 0, 5, 3, 0, 4, 1, 6, 7, 1, 6, 5, 4, 7};
     static const double probes[2][3] = {{1.5, 1.25, 2}, {5, 1.5, 3}};
@@ -34,5 +35,25 @@ int main(void) {
     printf("block, probe checked to 1e-9: %s\n", answer == 0 ? "accepted" : "refused");
     found[0] += 1e-6;
     printf("block, a place 1e-6 beside it: refused %u, too far from the probe\n", (unsigned)isn_hex_check(corners, found, 1e-9));
+}
+
+/* The table that `hexkids` prints for a mesh file with these cells. */
+static void refine(void) {
+    static const uint32_t cells[16] = {0, 1, 2, 3, 4, 5, 6, 7, 1, 8, 9, 2, 5, 11, 10, 6};
+    uint32_t children[128], next;
+    uint32_t answer = isn_refine(12, cells, 16, children, 128, &next);
+    if (answer != 0) {
+        printf("refused %u\n", (unsigned)answer);
+        return;
+    }
+    printf("cells 16 nodes %u\n", (unsigned)next);
+    for (size_t i = 0; i < 128; i++)
+        printf("%u%c", (unsigned)children[i], i % 8 == 7 ? '\n' : ' ');
+}
+
+int main(void) {
+    locate();
+    printf("\nTwo cells that share the face 1 2 6 5, refined: its middle is node 26 in both.\n");
+    refine();
     return 0;
 }

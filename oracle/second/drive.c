@@ -16,16 +16,6 @@
 
 #include "isnemgul.h"
 
-#ifdef SECOND_OWN_TYPES /* for a header without them */
-typedef struct isn_point {
-    double x, y, z;
-} isn_point;
-typedef struct isn_proposal {
-    isn_point at;
-    double tolerance;
-} isn_proposal;
-#endif
-
 /* Null where the archive lacks the function. These have to agree with the header's declarations. */
 #define MAY_LACK __attribute__((weak))
 uint32_t isn_hex_check(const double corners[24], const double at[3], double tolerance) MAY_LACK;

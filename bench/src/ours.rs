@@ -1,0 +1,120 @@
+//! The functions that are timed, through the C face. A list is the pointer and the length of one
+//! slice; the functions of arrays alone are safe to call.
+
+use cases::original::{Hex, Place, Prism};
+
+use crate::plain::Proposal;
+
+unsafe extern "C" {
+    pub safe fn isn_hex_shapefunc(pco: &Place, out: &mut [f64; 8]) -> u32;
+    pub safe fn isn_hex_dxdr(corners: &Hex, pco: &Place, out: &mut [Place; 3]) -> u32;
+    fn isn_hex_grad_shapefunc(
+        corners: &Hex,
+        points: *const f64,
+        length: usize,
+        i1: u32,
+        i2: u32,
+        i3: u32,
+        dndx: &mut [Place; 8],
+        detwei: &mut f64,
+    ) -> u32;
+    fn isn_hex_volume(corners: &Hex, points: *const f64, length: usize, out: &mut f64) -> u32;
+    pub safe fn isn_hex_parametric_coord_for_origin(corners: &Hex, at: &mut Place) -> u32;
+    pub safe fn isn_hex_check(corners: &Hex, at: &Place, tolerance: f64) -> u32;
+    pub safe fn isn_hex_locate_checked(corners: &Hex, tolerance: f64, at: &mut Place) -> u32;
+    fn isn_hex_check_proposals(
+        corners: &Hex,
+        list: *const Proposal,
+        length: usize,
+        out: *mut u32,
+        room: usize,
+        accepted: &mut u32,
+    ) -> u32;
+    pub safe fn isn_prism_shapefunc(pco: &Place, out: &mut [f64; 6]) -> u32;
+    pub safe fn isn_prism_dxdr(corners: &Prism, pco: &Place, out: &mut [Place; 3]) -> u32;
+    fn isn_prism_volume(
+        corners: &Prism,
+        line: *const f64,
+        line_length: usize,
+        triangle: *const f64,
+        triangle_length: usize,
+        out: &mut f64,
+    ) -> u32;
+    pub safe fn isn_prism_parametric_coord_for_origin(corners: &Prism, at: &mut Place) -> u32;
+    fn isn_refine(
+        n: u32,
+        cells: *const u32,
+        length: usize,
+        out: *mut u32,
+        room: usize,
+        next: &mut u32,
+    ) -> u32;
+    fn isn_hxm_read(
+        bytes: *const u8,
+        length: usize,
+        nodes: *mut u64,
+        nodes_room: usize,
+        cells: *mut u32,
+        cells_room: usize,
+        counts: &mut [u32; 2],
+    ) -> u32;
+    fn plain_refine(
+        n: u32,
+        cells: *const u32,
+        length: usize,
+        out: *mut u32,
+        room: usize,
+        next: &mut u32,
+    ) -> u32;
+}
+
+pub type Gradient = ([Place; 8], f64);
+
+pub fn hex_gradient(
+    corners: &Hex,
+    points: &[[f64; 2]],
+    [i1, i2, i3]: [u32; 3],
+    (dndx, detwei): &mut Gradient,
+) -> u32 {
+    let (points, length) = (points.as_ptr().cast(), 2 * points.len());
+    unsafe { isn_hex_grad_shapefunc(corners, points, length, i1, i2, i3, dndx, detwei) }
+}
+
+pub fn hex_volume(corners: &Hex, points: &[[f64; 2]], out: &mut f64) -> u32 {
+    unsafe { isn_hex_volume(corners, points.as_ptr().cast(), 2 * points.len(), out) }
+}
+
+pub fn prism_volume(
+    corners: &Prism,
+    line: &[[f64; 2]],
+    triangle: &[[f64; 3]],
+    out: &mut f64,
+) -> u32 {
+    let (points, length) = (triangle.as_ptr().cast(), 3 * triangle.len());
+    unsafe { isn_prism_volume(corners, line.as_ptr().cast(), 2 * line.len(), points, length, out) }
+}
+
+pub fn check_proposals(
+    corners: &Hex,
+    list: &[Proposal],
+    out: &mut [u32],
+    accepted: &mut u32,
+) -> u32 {
+    let (numbers, room) = (out.as_mut_ptr(), out.len());
+    unsafe { isn_hex_check_proposals(corners, list.as_ptr(), list.len(), numbers, room, accepted) }
+}
+
+pub fn refine(n: u32, cells: &[u32], out: &mut [u32], next: &mut u32) -> u32 {
+    unsafe { isn_refine(n, cells.as_ptr(), cells.len(), out.as_mut_ptr(), out.len(), next) }
+}
+
+/// Not ours: the same search in plain C.
+pub fn refine_in_c(n: u32, cells: &[u32], out: &mut [u32], next: &mut u32) -> u32 {
+    unsafe { plain_refine(n, cells.as_ptr(), cells.len(), out.as_mut_ptr(), out.len(), next) }
+}
+
+pub fn read(bytes: &[u8], nodes: &mut [u64], cells: &mut [u32], counts: &mut [u32; 2]) -> u32 {
+    let (words, words_room) = (nodes.as_mut_ptr(), nodes.len());
+    let (numbers, room) = (cells.as_mut_ptr(), cells.len());
+    unsafe { isn_hxm_read(bytes.as_ptr(), bytes.len(), words, words_room, numbers, room, counts) }
+}

@@ -1,0 +1,153 @@
+//! The additions as one would write them in Rust: what has no original is timed against these.
+
+use cases::original::{HEX, Hex, Place};
+use reference::hex::{EDGE2NODE, IDX2NODE, subdivide};
+
+#[derive(Clone, Copy)]
+#[repr(C)]
+pub struct Proposal {
+    pub at: Place,
+    pub tolerance: f64,
+}
+
+#[inline(never)]
+pub fn check(corners: &Hex, at: &Place, tolerance: f64) -> u32 {
+    let sizes = 1.0 / (1u128 << 100) as f64..=(1u128 << 100) as f64;
+    if !corners.as_flattened().iter().all(|&x| x == 0.0 || sizes.contains(&x.abs())) {
+        return 3;
+    }
+    if !(0.0..f64::INFINITY).contains(&tolerance) {
+        return 4;
+    }
+    if !at.iter().all(|x| (-1.0..=1.0).contains(x)) {
+        return 5;
+    }
+    let image = HEX.image(corners, at);
+    if image.iter().all(|&x| x <= tolerance && -x <= tolerance) { 0 } else { 6 }
+}
+
+#[inline(never)]
+pub fn check_proposals(corners: &Hex, list: &[Proposal], out: &mut [u32]) -> Result<u32, u32> {
+    if list.len() > 256 {
+        return Err(7);
+    }
+    if out.len() < list.len() {
+        return Err(8);
+    }
+    let mut accepted = 0;
+    for (proposal, number) in list.iter().zip(out) {
+        *number = check(corners, &proposal.at, proposal.tolerance);
+        accepted += u32::from(*number == 0);
+    }
+    Ok(accepted)
+}
+
+/// 9 before 10, cell by cell.
+fn faults<'a>(n: u32, mut cells: impl Iterator<Item = [u32; 8]> + 'a) -> Result<(), u32> {
+    cells.try_for_each(|cell| {
+        if cell.iter().any(|&node| node >= n) {
+            return Err(9);
+        }
+        let twice = (0..8).any(|j| cell[..j].contains(&cell[j]));
+        if twice { Err(10) } else { Ok(()) }
+    })
+}
+
+/// The nodes of an edge or a face, whose order does not count.
+fn same<const W: usize>(a: [u32; W], b: [u32; W]) -> bool {
+    a.iter().all(|node| b.contains(node))
+}
+
+fn edge(cell: &[u32; 8], e: usize) -> [u32; 2] {
+    EDGE2NODE[e].map(|k| cell[k])
+}
+
+fn face(cell: &[u32; 8], f: usize) -> [u32; 4] {
+    std::array::from_fn(|j| cell[IDX2NODE[4 * f + j]])
+}
+
+/// The numbers of a cell's edges or faces, by a search over those of earlier cells.
+fn number<const W: usize, const N: usize>(
+    cells: &[[u32; 8]],
+    numbers: &mut Vec<[u32; W]>,
+    nodes: impl Fn(&[u32; 8], usize) -> [u32; N],
+    next: &mut u32,
+) {
+    let cell = &cells[numbers.len()];
+    let mine = std::array::from_fn(|e| {
+        let own = nodes(cell, e);
+        for (earlier, theirs) in cells.iter().zip(numbers.iter()) {
+            for (f, &found) in theirs.iter().enumerate() {
+                if same(own, nodes(earlier, f)) {
+                    return found;
+                }
+            }
+        }
+        *next += 1;
+        *next - 1
+    });
+    numbers.push(mine);
+}
+
+#[inline(never)]
+pub fn refine(n: u32, cells: &[u32], out: &mut [u32]) -> Result<u32, u32> {
+    if n > 1024 || cells.len() > 1024 {
+        return Err(7);
+    }
+    if !cells.len().is_multiple_of(8) || out.len() < 8 * cells.len() {
+        return Err(8);
+    }
+    let (cells, _) = cells.as_chunks::<8>();
+    faults(n, cells.iter().copied())?;
+    let (mut edges, mut faces) = (Vec::with_capacity(128), Vec::with_capacity(128));
+    let mut next = n;
+    for (c, cell) in cells.iter().enumerate() {
+        number(cells, &mut edges, edge, &mut next);
+        number(cells, &mut faces, face, &mut next);
+        let children = subdivide(cell, &edges[c], &faces[c], next);
+        next += 1;
+        out[64 * c..64 * c + 64].copy_from_slice(children.as_flattened());
+    }
+    Ok(next)
+}
+
+fn number_at(bytes: &[u8], at: usize) -> u32 {
+    u32::from_le_bytes(bytes[at..at + 4].try_into().expect("four bytes"))
+}
+
+#[inline(never)]
+pub fn read(bytes: &[u8], nodes: &mut [u64], cells: &mut [u32]) -> Result<[u32; 2], u32> {
+    if bytes.len() < 13 {
+        return Err(13);
+    }
+    if !bytes.starts_with(b"HXM") {
+        return Err(11);
+    }
+    if bytes[3..5] != [1, 0] {
+        return Err(12);
+    }
+    let (n, c) = (number_at(bytes, 5), number_at(bytes, 9));
+    if n > 1024 || c > 128 {
+        return Err(7);
+    }
+    let (coords, corners) = (3 * n as usize, 8 * c as usize);
+    if bytes.len() != 13 + 8 * coords + 4 * corners {
+        return Err(13);
+    }
+    let (of_nodes, of_cells) = bytes[13..].split_at(8 * coords);
+    faults(n, of_cells.as_chunks::<32>().0.iter().map(cell))?;
+    if nodes.len() < coords || cells.len() < corners {
+        return Err(8);
+    }
+    for (word, pattern) in nodes.iter_mut().zip(of_nodes.as_chunks::<8>().0) {
+        *word = u64::from_le_bytes(*pattern);
+    }
+    for (number, four) in cells.iter_mut().zip(of_cells.as_chunks::<4>().0) {
+        *number = u32::from_le_bytes(*four);
+    }
+    Ok([n, c])
+}
+
+fn cell(bytes: &[u8; 32]) -> [u32; 8] {
+    std::array::from_fn(|k| number_at(bytes, 4 * k))
+}

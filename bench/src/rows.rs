@@ -1,0 +1,437 @@
+//! What is timed: each row has the original's side, or a plain program's, and ours, on the same inputs.
+
+use std::cell::RefCell;
+use std::hint::black_box;
+use std::rc::Rc;
+
+use cases::answers::{line_table, triangle_table};
+use cases::cells::{HEXES, PRISMS, Shape};
+use cases::chance::Chance;
+use cases::original::{Hex, Place, Prism};
+use reference::{hex, prism};
+
+use crate::ours::{self, *};
+use crate::plain::{self, Proposal};
+
+/// Calls one side with every input in turn.
+pub type Pass = Box<dyn Fn()>;
+
+pub struct Row {
+    pub name: &'static str,
+    pub against: &'static str,
+    pub calls: usize,
+    /// What part of a call of theirs one of ours is held against.
+    pub part: f64,
+    pub theirs: Pass,
+    pub ours: Pass,
+    /// Stops where the two sides do not agree.
+    pub agree: Pass,
+}
+
+const INPUTS: usize = 64;
+const TOLERANCE: f64 = 1e-9;
+const DEGREE: usize = 2;
+
+/// A side of a row: a function of an input, and a buffer that it may write to.
+struct Side<B, F> {
+    buffer: RefCell<B>,
+    call: F,
+}
+
+/// What the original answers, beside the number that ours returns and what it has written.
+trait Agrees<B> {
+    fn agrees(&self, number: u32, value: &B) -> bool;
+}
+
+impl<T: PartialEq> Agrees<T> for T {
+    fn agrees(&self, number: u32, value: &T) -> bool {
+        number == 0 && self == value
+    }
+}
+
+impl<T: PartialEq> Agrees<T> for Option<T> {
+    fn agrees(&self, number: u32, value: &T) -> bool {
+        self.as_ref().map_or(number != 0, |answer| answer.agrees(number, value))
+    }
+}
+
+/// A row against a function that returns its answer.
+fn row<I: 'static, A: Agrees<B> + 'static, B: 'static>(
+    name: &'static str,
+    against: &'static str,
+    inputs: &Rc<[I]>,
+    theirs: impl Fn(&I) -> A + 'static,
+    empty: B,
+    ours: impl Fn(&I, &mut B) -> u32 + 'static,
+) -> Row {
+    let agree = |theirs: &A, (): &(), number: &u32, value: &B| theirs.agrees(*number, value);
+    row_of(name, against, inputs, ((), move |i, _| theirs(i)), (empty, ours), agree)
+}
+
+/// A row against a function that returns a number and writes to a buffer, as ours does.
+fn row_into<I: 'static, B: Clone + PartialEq + 'static>(
+    name: &'static str,
+    against: &'static str,
+    inputs: &Rc<[I]>,
+    empty: B,
+    theirs: impl Fn(&I, &mut B) -> u32 + 'static,
+    ours: impl Fn(&I, &mut B) -> u32 + 'static,
+) -> Row {
+    let agree = |number: &u32, one: &B, of_ours: &u32, other: &B| number == of_ours && one == other;
+    row_of(name, against, inputs, (empty.clone(), theirs), (empty, ours), agree)
+}
+
+fn row_of<I: 'static, A: 'static, B: 'static, C: 'static>(
+    name: &'static str,
+    against: &'static str,
+    inputs: &Rc<[I]>,
+    theirs: (B, impl Fn(&I, &mut B) -> A + 'static),
+    ours: (C, impl Fn(&I, &mut C) -> u32 + 'static),
+    agree: impl Fn(&A, &B, &u32, &C) -> bool + 'static,
+) -> Row {
+    let theirs = Rc::new(Side { buffer: RefCell::new(theirs.0), call: theirs.1 });
+    let ours = Rc::new(Side { buffer: RefCell::new(ours.0), call: ours.1 });
+    let passes = (pass(inputs, &theirs), pass(inputs, &ours));
+    let inputs = Rc::clone(inputs);
+    let calls = inputs.len();
+    let agree = move || {
+        let (one, other) = (&mut *theirs.buffer.borrow_mut(), &mut *ours.buffer.borrow_mut());
+        for input in inputs.iter() {
+            let (answer, number) = ((theirs.call)(input, one), (ours.call)(input, other));
+            assert!(agree(&answer, one, &number, other), "{name}: the two sides do not agree");
+        }
+    };
+    let (theirs, ours) = passes;
+    Row { name, against, calls, part: 1.0, theirs, ours, agree: Box::new(agree) }
+}
+
+/// Answers stay where the call has put them, so that nothing but the call is timed.
+fn pass<I: 'static, B: 'static, A>(
+    inputs: &Rc<[I]>,
+    side: &Rc<Side<B, impl Fn(&I, &mut B) -> A + 'static>>,
+) -> Pass {
+    let (inputs, side) = (Rc::clone(inputs), Rc::clone(side));
+    Box::new(move || {
+        let buffer = &mut *side.buffer.borrow_mut();
+        for input in inputs.iter() {
+            let answer = (side.call)(black_box(input), buffer);
+            black_box(&answer);
+            black_box(&mut *buffer);
+        }
+    })
+}
+
+// The original's functions, each compiled once and called: ours are behind one call too.
+
+macro_rules! of_hex {
+    ($function:path, $p:ident $(, $more:expr)*) => {
+        $function(&$p[0], &$p[1], &$p[2], &$p[3], &$p[4], &$p[5], &$p[6], &$p[7] $(, $more)*)
+    };
+}
+
+macro_rules! of_prism {
+    ($function:path, $p:ident $(, $more:expr)*) => {
+        $function(&$p[0], &$p[1], &$p[2], &$p[3], &$p[4], &$p[5] $(, $more)*)
+    };
+}
+
+#[inline(never)]
+fn hex_locate(corners: &Hex) -> Option<Place> {
+    of_hex!(hex::parametric_coord_for_origin, corners)
+}
+
+#[inline(never)]
+fn prism_locate(corners: &Prism) -> Option<Place> {
+    of_prism!(prism::parametric_coord_for_origin, corners)
+}
+
+#[inline(never)]
+fn hex_shapefunc(at: &Place) -> [f64; 8] {
+    hex::shapefunc(at)
+}
+
+#[inline(never)]
+fn prism_shapefunc(at: &Place) -> [f64; 6] {
+    prism::shapefunc(at)
+}
+
+#[inline(never)]
+fn hex_dxdr(corners: &Hex, at: &Place) -> [Place; 3] {
+    of_hex!(hex::dxdr, corners, at)
+}
+
+#[inline(never)]
+fn prism_dxdr(corners: &Prism, at: &Place) -> [Place; 3] {
+    of_prism!(prism::dxdr, corners, at)
+}
+
+#[inline(never)]
+fn hex_gradient(corners: &Hex, points: &[[f64; 2]], indices: [u32; 3]) -> Gradient {
+    let [i1, i2, i3] = indices.map(|i| i as usize);
+    hex::grad_shapefunc(corners, points, i1, i2, i3)
+}
+
+#[inline(never)]
+fn hex_volume(corners: &Hex, degree: usize) -> f64 {
+    of_hex!(hex::volume, corners, degree)
+}
+
+#[inline(never)]
+fn prism_volume(corners: &Prism, degree: usize) -> f64 {
+    of_prism!(prism::volume, corners, degree)
+}
+
+/// The original's locator, and then the check in plain Rust.
+fn locate_checked(corners: &Hex) -> Option<Place> {
+    hex_locate(corners).filter(|at| plain::check(corners, at, TOLERANCE) == 0)
+}
+
+/// A cell with the origin inside, and where the original locates it.
+type Located<const N: usize> = ([Place; N], Place);
+
+fn located<const N: usize>(shape: &Shape<N>, chance: &mut Chance) -> Rc<[Located<N>]> {
+    let cells = std::iter::repeat_with(|| shape.plain_inside(chance));
+    let located = cells.filter_map(|corners| Some((corners, (shape.cell.locate)(&corners)?)));
+    located.take(INPUTS).collect()
+}
+
+pub fn all() -> Vec<Row> {
+    let chance = &mut Chance::new(1);
+    let mut rows = locators(chance);
+    rows.extend(hexahedron(chance));
+    rows.extend(prism(chance));
+    rows.push(proposals(chance));
+    rows.extend(meshes(chance));
+    rows.push(files(chance));
+    rows
+}
+
+fn locators(chance: &mut Chance) -> Vec<Row> {
+    let hexes = located(&HEXES, chance);
+    let inside: Rc<[Hex]> = hexes.iter().map(|(corners, _)| *corners).collect();
+    let outside: Rc<[Hex]> = (0..INPUTS).map(|_| HEXES.plain_outside(chance)).collect();
+    let prisms: Rc<[Prism]> = (0..INPUTS).map(|_| PRISMS.plain_inside(chance)).collect();
+    let beside: Rc<[Prism]> = (0..INPUTS).map(|_| PRISMS.plain_outside(chance)).collect();
+    let hex = |p: &Hex, at: &mut Place| isn_hex_parametric_coord_for_origin(p, at);
+    let prism = |p: &Prism, at: &mut Place| isn_prism_parametric_coord_for_origin(p, at);
+    let checked = |p: &Hex, at: &mut Place| isn_hex_locate_checked(p, TOLERANCE, at);
+    let at = [0.0; 3];
+    vec![
+        row("hex locate, inside", "original", &inside, hex_locate, at, hex),
+        row("hex locate, outside", "original", &outside, hex_locate, at, hex),
+        row("prism locate, inside", "original", &prisms, prism_locate, at, prism),
+        row("prism locate, outside", "original", &beside, prism_locate, at, prism),
+        row("checked locate", "original + check", &inside, locate_checked, at, checked),
+        newton_step(&hexes),
+        row_into(
+            "check",
+            "plain Rust",
+            &hexes,
+            (),
+            |(corners, at), ()| plain::check(corners, at, TOLERANCE),
+            |(corners, at), ()| isn_hex_check(corners, at, TOLERANCE),
+        ),
+    ]
+}
+
+/// The check beside one of the twenty steps of the original's locator.
+fn newton_step(inside: &Rc<[Located<8>]>) -> Row {
+    let row = row_into(
+        "check",
+        "a Newton step",
+        inside,
+        (),
+        |(corners, _), ()| u32::from(hex_locate(corners).is_none()),
+        |(corners, at), ()| isn_hex_check(corners, at, TOLERANCE),
+    );
+    Row { part: 1.0 / 20.0, ..row }
+}
+
+fn hexahedron(chance: &mut Chance) -> Vec<Row> {
+    let cells = located(&HEXES, chance);
+    let at_points: Rc<[(Hex, [u32; 3])]> =
+        cells.iter().map(|(corners, at)| (*corners, at.map(|x| u32::from(x > 0.0)))).collect();
+    let line = line_table(DEGREE).expect("a degree of the original");
+    vec![
+        row(
+            "hex shapefunc",
+            "original",
+            &cells,
+            |(_, at)| hex_shapefunc(at),
+            [0.0; 8],
+            |(_, at), out| isn_hex_shapefunc(at, out),
+        ),
+        row(
+            "hex dxdr",
+            "original",
+            &cells,
+            |(corners, at)| hex_dxdr(corners, at),
+            [[0.0; 3]; 3],
+            |(corners, at), out| isn_hex_dxdr(corners, at, out),
+        ),
+        row(
+            "hex gradient",
+            "original",
+            &at_points,
+            |(corners, indices)| hex_gradient(corners, black_box(line), *indices),
+            ([[0.0; 3]; 8], 0.0),
+            |(corners, indices), out| ours::hex_gradient(corners, black_box(line), *indices, out),
+        ),
+        row(
+            "hex volume",
+            "original",
+            &cells,
+            |(corners, _)| hex_volume(corners, black_box(DEGREE)),
+            0.0,
+            |(corners, _), out| ours::hex_volume(corners, black_box(line), out),
+        ),
+    ]
+}
+
+fn prism(chance: &mut Chance) -> Vec<Row> {
+    let cells = located(&PRISMS, chance);
+    let line = line_table(DEGREE).expect("a degree of the original");
+    let triangle = triangle_table(DEGREE).expect("a degree of the original");
+    vec![
+        row(
+            "prism shapefunc",
+            "original",
+            &cells,
+            |(_, at)| prism_shapefunc(at),
+            [0.0; 6],
+            |(_, at), out| isn_prism_shapefunc(at, out),
+        ),
+        row(
+            "prism dxdr",
+            "original",
+            &cells,
+            |(corners, at)| prism_dxdr(corners, at),
+            [[0.0; 3]; 3],
+            |(corners, at), out| isn_prism_dxdr(corners, at, out),
+        ),
+        row(
+            "prism volume",
+            "original",
+            &cells,
+            |(corners, _)| prism_volume(corners, black_box(DEGREE)),
+            0.0,
+            |(corners, _), out| {
+                ours::prism_volume(corners, black_box(line), black_box(triangle), out)
+            },
+        ),
+    ]
+}
+
+/// The number that the C face returns, with the answer written.
+fn put<T>(answer: Result<T, u32>, out: &mut T) -> u32 {
+    match answer {
+        Ok(value) => {
+            *out = value;
+            0
+        }
+        Err(number) => number,
+    }
+}
+
+/// Lists of 256 places: near, too far and outside.
+fn proposals(chance: &mut Chance) -> Row {
+    let lists: Rc<[(Hex, Vec<Proposal>)]> = (0..8)
+        .map(|_| {
+            let corners = HEXES.plain_inside(chance);
+            let list = (0..256).map(|_| Proposal {
+                at: std::array::from_fn(|_| chance.between(-1.02, 1.02)),
+                tolerance: chance.between(0.0, 2.0),
+            });
+            (corners, list.collect())
+        })
+        .collect();
+    row_into(
+        "256 proposals",
+        "plain Rust",
+        &lists,
+        ([0; 256], 0),
+        |(corners, list), (out, count)| put(plain::check_proposals(corners, list, out), count),
+        |(corners, list), (out, count)| ours::check_proposals(corners, list, out, count),
+    )
+}
+
+/// A node count and cells.
+type Mesh = (u32, Vec<u32>);
+
+/// A block of 4 by 4 by 8 cells, its nodes numbered at random.
+fn block(chance: &mut Chance) -> Mesh {
+    let names = shuffled(chance, 5 * 5 * 9);
+    let node = |x: usize, y: usize, z: usize| names[x + 5 * (y + 5 * z)];
+    let cells = (0..128).flat_map(|i| {
+        let (x, y, z) = (i % 4, i / 4 % 4, i / 16);
+        let ring = [(0, 0), (1, 0), (1, 1), (0, 1)];
+        std::array::from_fn::<u32, 8, _>(|k| {
+            let (dx, dy) = ring[k % 4];
+            node(x + dx, y + dy, z + k / 4)
+        })
+    });
+    (225, cells.collect())
+}
+
+/// 128 cells that share nothing, so that every search goes to its end.
+fn apart(chance: &mut Chance) -> Mesh {
+    (1024, shuffled(chance, 1024))
+}
+
+fn shuffled(chance: &mut Chance, n: u32) -> Vec<u32> {
+    let mut names: Vec<u32> = (0..n).collect();
+    for i in (1..names.len()).rev() {
+        names.swap(i, chance.below(i as u64 + 1) as usize);
+    }
+    names
+}
+
+fn meshes(chance: &mut Chance) -> Vec<Row> {
+    let blocks: Rc<[Mesh]> = (0..4).map(|_| block(chance)).collect();
+    let parts: Rc<[Mesh]> = (0..4).map(|_| apart(chance)).collect();
+    let in_rust = |n: u32, cells: &[u32], out: &mut [u32], next: &mut u32| {
+        put(plain::refine(n, cells, out), next)
+    };
+    vec![
+        refinement("refine a block of 128", "plain C, -O3", &blocks, refine_in_c),
+        refinement("refine a block of 128", "plain Rust", &blocks, in_rust),
+        refinement("refine 128 apart", "plain C, -O3", &parts, refine_in_c),
+        refinement("refine 128 apart", "plain Rust", &parts, in_rust),
+    ]
+}
+
+fn refinement(
+    name: &'static str,
+    against: &'static str,
+    meshes: &Rc<[Mesh]>,
+    theirs: fn(u32, &[u32], &mut [u32], &mut u32) -> u32,
+) -> Row {
+    row_into(
+        name,
+        against,
+        meshes,
+        (vec![0; 8192], 0),
+        move |(n, cells), (out, next)| theirs(*n, cells, out, next),
+        |(n, cells), (out, next)| ours::refine(*n, cells, out, next),
+    )
+}
+
+/// Files of 1,024 nodes and 128 cells.
+fn files(chance: &mut Chance) -> Row {
+    let files: Rc<[Vec<u8>]> = (0..4)
+        .map(|_| {
+            let mut file = b"HXM\x01\0\0\x04\0\0\x80\0\0\0".to_vec();
+            file.extend((0..3072).flat_map(|_| chance.bits().to_le_bytes()));
+            file.extend(apart(chance).1.iter().flat_map(|node| node.to_le_bytes()));
+            file
+        })
+        .collect();
+    row_into(
+        "read a full file",
+        "plain Rust",
+        &files,
+        (vec![0; 3072], vec![0; 1024], [0; 2]),
+        |file, (nodes, cells, counts)| put(plain::read(file, nodes, cells), counts),
+        |file, (nodes, cells, counts)| ours::read(file, nodes, cells, counts),
+    )
+}

@@ -1,0 +1,185 @@
+//! Every refusal of every function, in the order in which they are looked for, and that nothing is
+//! written then.
+
+use isnemgul::hex::{self, Proposal, SIGNS};
+use isnemgul::{Point, Refusal, mat3, mesh, prism};
+
+use Refusal::*;
+
+const CELL: [u32; 8] = [0, 1, 2, 3, 4, 5, 6, 7];
+
+#[test]
+fn numbers_and_words() {
+    let all: Vec<Refusal> = (1..=13).map(|n| Refusal::from_number(n).unwrap()).collect();
+    assert!(all.iter().zip(1..).all(|(refusal, n)| refusal.number() == n));
+    assert_eq!([0, 14, u32::MAX].map(Refusal::from_number), [None; 3]);
+    assert_eq!(TooFar.to_string(), "refused 6: the image is too far from the probe on some axis");
+    assert!(all.windows(2).all(|two| two[0].to_string() != two[1].to_string()));
+    let _: &dyn std::error::Error = &Flat;
+}
+
+#[test]
+fn inverse() {
+    assert_eq!(mat3::try_inverse(&[-0.0; 9]), Err(Flat));
+    assert!(mat3::try_inverse(&[f64::NAN; 9]).is_ok());
+}
+
+#[test]
+fn locators() {
+    assert_eq!(hex::parametric_coord_for_origin(&[[1.; 3]; 8]), Err(Flat));
+    assert_eq!(prism::parametric_coord_for_origin(&[[1.; 3]; 6]), Err(Flat));
+    let beside = |places: &Point| [places[0] + 5., places[1], places[2]];
+    assert_eq!(hex::parametric_coord_for_origin(&SIGNS.each_ref().map(beside)), Err(Outside));
+    let prism = prism::PLACES.each_ref().map(beside);
+    assert_eq!(prism::parametric_coord_for_origin(&prism), Err(Outside));
+    assert_eq!(hex::parametric_coord_for_origin(&[[f64::NAN; 3]; 8]), Err(Outside));
+}
+
+fn with_corner(value: f64) -> hex::Corners {
+    let mut corners = SIGNS;
+    corners[7][2] = value;
+    corners
+}
+
+#[test]
+fn check() {
+    let small = 2f64.powi(-101);
+    for bad in [f64::NAN, f64::INFINITY, small, -2f64.powi(101)] {
+        assert_eq!(hex::check(&with_corner(bad), &[9.; 3], -1.), Err(Corner));
+    }
+    assert_eq!(hex::check(&with_corner(2f64.powi(100)), &[1., 1., -1.], 3.), Ok(()));
+    assert_eq!(hex::check(&with_corner(-0.0), &[0.; 3], 1.), Ok(()));
+    for bad in [f64::NAN, f64::INFINITY, -1e-300] {
+        assert_eq!(hex::check(&SIGNS, &[9.; 3], bad), Err(Tolerance));
+    }
+    for bad in [1. + f64::EPSILON, -2., f64::NAN] {
+        assert_eq!(hex::check(&SIGNS, &[0., bad, 0.], 0.), Err(Coordinate));
+    }
+    assert_eq!(hex::check(&SIGNS, &[0., 0., 1.], 0.5), Err(TooFar));
+    assert_eq!(hex::check(&SIGNS, &[0.; 3], -0.0), Ok(()));
+}
+
+#[test]
+fn locate_checked() {
+    assert_eq!(hex::locate_checked(&with_corner(f64::NAN), -1.), Err(Corner));
+    assert_eq!(hex::locate_checked(&[[1.; 3]; 8], -1.), Err(Tolerance));
+    assert_eq!(hex::locate_checked(&[[1.; 3]; 8], 1.), Err(Flat));
+    assert_eq!(hex::locate_checked(&SIGNS.map(|[x, y, z]| [x + 5., y, z]), 9.), Err(Outside));
+    // Newton's place is inside, and its image (-1,-1,0).
+    let mut folded = SIGNS.map(|corner| corner.map(|x| (x - 1.) / 2.));
+    folded[6] = folded[4];
+    assert_eq!(hex::parametric_coord_for_origin(&folded), Ok([1.; 3]));
+    assert_eq!(hex::locate_checked(&folded, 0.5), Err(TooFar));
+}
+
+#[test]
+fn proposals() {
+    let proposal = Proposal { at: [0.; 3], tolerance: 1. };
+    let mut out = [77; 257];
+    assert_eq!(hex::check_proposals(&SIGNS, &[proposal; 257], &mut []), Err(Limit));
+    assert_eq!(hex::check_proposals(&SIGNS, &[proposal; 256], &mut out[..255]), Err(Length));
+    assert_eq!(out, [77; 257]);
+    assert_eq!(hex::check_proposals(&SIGNS, &[proposal; 256], &mut out), Ok(256));
+}
+
+/// Lists of floats, and what they are refused by: (2 floats an item, 3 floats an item).
+#[test]
+fn quadrature_points() {
+    let lists = [0, 1, 3, 33, 34, 36].map(|length| vec![0.5; length]);
+    let by_two = [Limit, Length, Length, Length, Limit, Limit];
+    let good = [0.5; 6];
+    for (list, refusal) in lists.iter().zip(by_two) {
+        assert_eq!(hex::volume(&SIGNS, list), Err(refusal));
+        assert_eq!(hex::grad_shapefunc(&SIGNS, list, [99; 3]), Err(refusal));
+        assert_eq!(prism::volume(&prism::PLACES, list, &good), Err(refusal));
+    }
+    for (length, refusal) in [(0, Limit), (1, Length), (50, Length), (51, Limit)] {
+        assert_eq!(prism::volume(&prism::PLACES, &good, &vec![0.5; length]), Err(refusal));
+    }
+    assert_eq!(prism::volume(&prism::PLACES, &[], &[0.5]), Err(Length));
+    for indices in [[3, 0, 0], [0, 3, 0], [0, 0, u32::MAX]] {
+        assert_eq!(hex::grad_shapefunc(&SIGNS, &good, indices), Err(Range));
+    }
+}
+
+#[test]
+fn iso() {
+    assert_eq!(hex::iso_mask(256), Err(Range));
+    for nodes in [[8, 0], [0, 8]] {
+        assert_eq!(hex::iso_position_on_edge(&[0.; 3], 1., nodes, [-1., 1.]), Err(Range));
+    }
+}
+
+#[test]
+fn refine() {
+    let cells = |edit: fn(&mut [u32])| {
+        let mut cells = [CELL, CELL].concat();
+        edit(&mut cells);
+        cells
+    };
+    let many = CELL.repeat(129);
+    let cases: [(u32, Vec<u32>, usize, Refusal); 8] = [
+        (1025, vec![9; 1025], 0, Limit),
+        (1024, many[..1025].to_vec(), 0, Limit),
+        (8, vec![9; 7], 0, Length),
+        (8, vec![9; 8], 63, Length),
+        (8, cells(|c| c[3] = 8), 128, Range),
+        (8, cells(|c| (c[2], c[15]) = (c[1], 8)), 128, Twice),
+        (8, cells(|c| (c[8], c[9], c[15]) = (0, 0, 8)), 128, Range),
+        (0, CELL.to_vec(), 64, Range),
+    ];
+    for (n, cells, room, refusal) in cases {
+        let mut out = vec![77; room];
+        assert_eq!(mesh::refine(n, &cells, &mut out), Err(refusal));
+        assert_eq!(out, vec![77; room]);
+    }
+    assert!(mesh::refine(8, &many[..1024], &mut vec![0; 8192]).is_ok());
+    assert_eq!(mesh::refine(5, &[], &mut []), Ok(5));
+}
+
+#[test]
+fn descendant() {
+    assert_eq!(mesh::descendant(&[9; 21], 9), Err(Limit));
+    assert_eq!(mesh::descendant(&[0, 8], 0), Err(Range));
+    assert_eq!(mesh::descendant(&[0; 20], 8), Err(Range));
+    assert_eq!(mesh::descendant(&[6; 20], 6), Ok([1 << 20; 3]));
+}
+
+/// A file of `n` nodes at zero and these cells.
+fn file(n: u32, cells: &[u32]) -> Vec<u8> {
+    let mut bytes = b"HXM\x01\0".to_vec();
+    bytes.extend([n, cells.len() as u32 / 8].iter().flat_map(|count| count.to_le_bytes()));
+    bytes.resize(13 + 24 * n as usize, 0);
+    bytes.extend(cells.iter().flat_map(|node| node.to_le_bytes()));
+    bytes
+}
+
+#[test]
+fn read() {
+    let good = file(8, &CELL);
+    let edited = |at: usize, byte: u8| {
+        let mut bytes = good.clone();
+        bytes[at] = byte;
+        bytes
+    };
+    let (nodes_at, cells_at) = (5, 13 + 24 * 8);
+    let cases: [(Vec<u8>, Refusal); 9] = [
+        (b"hxm\x02\0\0\0\0\0\0\0\0".to_vec(), FileLength),
+        (edited(2, b'N'), Mark),
+        (edited(4, 1), Version),
+        (edited(nodes_at + 1, 0x10), Limit),
+        (file(8, &CELL.repeat(129)), Limit),
+        (good[..good.len() - 1].to_vec(), FileLength),
+        ([&good[..], b"\n"].concat(), FileLength),
+        (edited(cells_at, 8), Range),
+        (edited(cells_at, 1), Twice),
+    ];
+    let (mut nodes, mut cells) = ([77; 24], [77; 8]);
+    for (bytes, refusal) in cases {
+        assert_eq!(mesh::read(&bytes, &mut nodes, &mut cells), Err(refusal));
+        assert_eq!(mesh::read(&bytes, &mut [], &mut []), Err(refusal));
+    }
+    assert_eq!(mesh::read(&good, &mut nodes[..23], &mut cells), Err(Length));
+    assert_eq!(mesh::read(&good, &mut nodes, &mut cells[..7]), Err(Length));
+    assert_eq!((nodes, cells), ([77; 24], [77; 8]));
+}
