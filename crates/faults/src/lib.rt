@@ -9,14 +9,11 @@ fn in_range(n: u32, cells: &[u32], c: usize) -> bool
     requires { ⌜ 8 * c + 8 ≤ length (now cells) ⌝ }
     ensures { λ r. ⌜ r ≡ inRange n 8 (node 8 (now (cells .entry)) c) ⌝ }
 {
-    let mut j: usize = 0;
-    while j < 8 {
-        if cells[8 * c + j] >= n {
-            return false;
-        }
-        j += 1;
+    let mut ranged = true;
+    for j in 0..8usize {
+        ranged = (cells[8 * c + j] < n) & ranged;
     }
-    true
+    ranged
 }
 
 // Whether node j of cell c differs from those before it.
@@ -25,14 +22,11 @@ fn new_at(cells: &[u32], c: usize, j: usize) -> bool
     ensures { λ r. ⌜ r ≡ newAt (node 8 (now (cells .entry)) c) j ⌝ }
 {
     let x = cells[8 * c + j];
-    let mut i: usize = 0;
-    while i < j {
-        if cells[8 * c + i] == x {
-            return false;
-        }
-        i += 1;
+    let mut new = true;
+    for i in 0..j {
+        new = (cells[8 * c + i] != x) & new;
     }
-    true
+    new
 }
 
 // Whether cell c names no node twice.
@@ -40,14 +34,11 @@ fn different(cells: &[u32], c: usize) -> bool
     requires { ⌜ 8 * c + 8 ≤ length (now cells) ⌝ }
     ensures { λ r. ⌜ r ≡ different 8 (node 8 (now (cells .entry)) c) ⌝ }
 {
-    let mut j: usize = 0;
-    while j < 8 {
-        if !new_at(cells, c, j) {
-            return false;
-        }
-        j += 1;
+    let mut apart = true;
+    for j in 0..8usize {
+        apart = new_at(cells, c, j) & apart;
     }
-    true
+    apart
 }
 
 // 9 before 10, or 0 for a cell without a fault.
