@@ -3,10 +3,10 @@
 //!     bench [--only TEXT] [--rounds N]
 //!     bench --instructions [--only TEXT]
 //!
-//! Both sides run in turn on the same inputs, in short rounds. The table has the medians of the rounds
-//! and their ratio; the ratio of the fastest tenth of either side's rounds, which other work on the
-//! machine disturbs least; and between which ratios half of the rounds lie. With `--instructions` valgrind counts instructions instead, which no other work on the
-//! machine disturbs.
+//! Both sides run in turn on the same inputs, in short rounds. The table has the medians of the
+//! rounds and their ratio; the ratio of the fastest tenth of either side's rounds, which other work
+//! on the machine disturbs least; and between which ratios half of the rounds lie. With
+//! `--instructions` valgrind counts instructions instead, which nothing disturbs.
 
 mod ours;
 mod plain;
