@@ -1,5 +1,6 @@
 -- Keys that a search has passed, and numbers that keep to the rule. Assumes nothing.
 use Prim.Native.Nat.{ℕ, _+_, _<_}
+use native.Mathlib.Nat.{zero-add}
 use native.Mathlib.Omega.{arith}
 use mathlib.Core.Path.{_≡_, sym, ap, _∙_}
 use mathlib.Core.List.{List}
@@ -7,7 +8,10 @@ use borrow.Author.Tests.{eqb-true, eqb-false}
 use lib.Dec.{eqb}
 use lib.ListN.{length, getD, set}
 use lib.Seq.{getD-set-same, getD-set-other, ext-getD}
+use Rattle.numbers.specs.Rule.{tabulate}
 use Rattle.numbers.proofs.Cases.{cases}
+use Rattle.numbers.proofs.Stored.{length-tabulate}
+use Rattle.numbers.proofs.Tabulate.{tabulate-at}
 use Rattle.refine.specs.declared.Found.the-variants.{At}
 use Rattle.refine.specs.Search.{Missing, Finds, Rule, Agrees}
 
@@ -25,9 +29,13 @@ agrees-more numbers p q x value one room e old j below =
     (λ t. let here = eqb-true j p t in rw here (getD-set-same numbers p x 0 room ∙ e))
     (λ f. let other : j ≡ p → ⊥ = eqb-false j p f in getD-set-other numbers p j x 0 other ∙ old j (omega arith))
 
--- numbers that agree with a list are that list
-pub agrees-all : (numbers l : List ℕ) (m : ℕ) → length numbers ≡ m → length l ≡ m → Agrees numbers m (λ (j : ℕ). getD l j 0) → numbers ≡ l
-agrees-all numbers l m long-as long h = ext-getD 0 numbers l (long-as ∙ sym long) (λ j below. h j (rw long-as at below))
+-- numbers that agree with a rule are the list by that rule
+pub agrees-all : (numbers : List ℕ) (m : ℕ) (value : ℕ → ℕ) → length numbers ≡ m → Agrees numbers m value → numbers ≡ tabulate m value
+agrees-all numbers m value long h =
+    ext-getD 0 numbers (tabulate m value) (long ∙ sym (length-tabulate m value)) (λ j below. let within = rw long at below in h j within ∙ sym (tabulate-at m value 0 j within))
+
+pub copied : (l : List ℕ) (m : ℕ) → length l ≡ m → tabulate m (λ (k : ℕ). getD l (0 + k) 0) ≡ l
+copied l m long = sym (agrees-all l m (λ (k : ℕ). getD l (0 + k) 0) long (λ j below. ap (λ (k : ℕ). getD l k 0) (sym (zero-add j))))
 
 -- What the code does at key m + i keeps to the rule: it stores what the search has found, or the next number where it has found nothing.
 module _ (keys numbers : List ℕ) (m w i : ℕ) (value before : ℕ → ℕ) (rule : Rule keys m w value before) (within : i < w) (room : m + i < length numbers)

@@ -5,13 +5,14 @@ ghost use mathlib.Core.List.{[], _∷_};
 ghost use Prim.Native.Nat.{_+_, _*_, _^_, _<_, _≤_, min, max};
 ghost use lib.Dec.{T};
 ghost use lib.ListN.{length, getD};
+ghost use Rattle.numbers.specs.Rule.{tabulate};
 ghost use Rattle.cell.specs.Edges.{end};
 ghost use Rattle.cell.specs.Faults.{node, firstFault};
 ghost use Rattle.hex.specs.Cube.{edges, idx2node};
 ghost use Rattle.numbering.specs.Refinement.{cellCount, edgeNodes, faceNodes, next};
 ghost use Rattle.numbering.specs.Keys.{packed, key, edgeKey, faceKey, apart};
 ghost use Rattle.refine.specs.Refine.{refined, written, outputAfter, told};
-ghost use Rattle.refine.specs.Search.{Finds, Numbers, Agrees, FacesDiffer, row, childrenOf};
+ghost use Rattle.refine.specs.Search.{Finds, Numbers, Agrees, FacesDiffer, childrenOf};
 
 // The next free number, or a refusal's number.
 pub enum Refined {
@@ -156,55 +157,16 @@ fn face_keys(cells: &[u32]) -> [u64; 768]
     keys
 }
 
-// What a cell has in a list of eight, of twelve or of six numbers a cell: its nodes, the numbers of its edges, the numbers of its faces.
-fn eight_of(cells: &[u32], cell: usize) -> [u32; 8]
-    requires { ⌜ 8 * cell + 8 ≤ length (now cells) ⌝ }
-    ensures { λ r. ⌜ r ≡ row 8 (now (cells .entry)) cell ⌝ }
+// Copies what stands in a list from `from` on, as much as there is room for.
+fn copy_row(list: &[u32], from: usize, row: &mut [u32])
+    requires { ⌜ from + length (now row) ≤ length (now list) ⌝ }
+    ensures { λ _. ⌜ now (row .exit) ≡ tabulate (length (now (row .entry))) (λ k. getD (now (list .entry)) (from + k) 0) ⌝ }
 {
-    [
-        cells[8 * cell + 0],
-        cells[8 * cell + 1],
-        cells[8 * cell + 2],
-        cells[8 * cell + 3],
-        cells[8 * cell + 4],
-        cells[8 * cell + 5],
-        cells[8 * cell + 6],
-        cells[8 * cell + 7],
-    ]
-}
-
-fn twelve_of(edges: &[u32], cell: usize) -> [u32; 12]
-    requires { ⌜ 12 * cell + 12 ≤ length (now edges) ⌝ }
-    ensures { λ r. ⌜ r ≡ row 12 (now (edges .entry)) cell ⌝ }
-{
-    [
-        edges[12 * cell + 0],
-        edges[12 * cell + 1],
-        edges[12 * cell + 2],
-        edges[12 * cell + 3],
-        edges[12 * cell + 4],
-        edges[12 * cell + 5],
-        edges[12 * cell + 6],
-        edges[12 * cell + 7],
-        edges[12 * cell + 8],
-        edges[12 * cell + 9],
-        edges[12 * cell + 10],
-        edges[12 * cell + 11],
-    ]
-}
-
-fn six_of(faces: &[u32], cell: usize) -> [u32; 6]
-    requires { ⌜ 6 * cell + 6 ≤ length (now faces) ⌝ }
-    ensures { λ r. ⌜ r ≡ row 6 (now (faces .entry)) cell ⌝ }
-{
-    [
-        faces[6 * cell + 0],
-        faces[6 * cell + 1],
-        faces[6 * cell + 2],
-        faces[6 * cell + 3],
-        faces[6 * cell + 4],
-        faces[6 * cell + 5],
-    ]
+    let mut k: usize = 0;
+    while k < row.len() {
+        row[k] = list[from + k];
+        k += 1;
+    }
 }
 
 // Writes one cell's children into the part of the output that is theirs.
@@ -220,13 +182,14 @@ fn write_children(
     requires { ⌜ (8 * cell + 8 ≤ length (now cells)) × (12 * cell + 12 ≤ length (now edges)) × (6 * cell + 6 ≤ length (now faces)) ⌝ }
     ensures { λ _. ⌜ now (part .exit) ≡ childrenOf (now (cells .entry)) (now (edges .entry)) (now (faces .entry)) cell center ⌝ }
 {
-    let corner = eight_of(cells, cell);
-    let edge = twelve_of(edges, cell);
-    let quad = six_of(faces, cell);
+    let mut corner = [0u32; 8];
+    let mut edge = [0u32; 12];
+    let mut quad = [0u32; 6];
+    copy_row(cells, 8 * cell, &mut corner);
+    copy_row(edges, 12 * cell, &mut edge);
+    copy_row(faces, 6 * cell, &mut quad);
     let numbers = hex_children::subdivide(corner, edge, quad, center);
-    for k in 0..64usize {
-        part[k] = numbers[k];
-    }
+    copy_row(&numbers, 0, part);
 }
 
 // Numbers the cells in order and writes their children. The answer is the next free number.
