@@ -2,6 +2,7 @@
 // Corners are 24 floats, corner by corner, as is whatever has three floats a corner. Corner order: xyz, Xyz, XYz, xYz, xyZ, XyZ, XYZ, xYZ.
 ghost use mathlib.Core.Path.{_≡_};
 ghost use Prim.Native.Nat.{_<_};
+ghost use Rattle.numbers.specs.Rule.{tabulate};
 ghost use Rattle.cell.specs.Image.{imageOn, image, jacobianOn, jacobian};
 ghost use Rattle.hex.specs.Cube.{hexSign, edges, idx2node};
 ghost use Rattle.hex.specs.Shape.{shape, slopes, imageAt, jacobianAt};
@@ -153,17 +154,26 @@ fn dxdr_entry(p: [f64; 24], dndr: [f64; 24], idim: usize, jdim: usize) -> f64
     dxdr
 }
 
+// Row idim of the Jacobian, from the slopes, of corners that are lent.
+fn dxdr_row(p: &[f64; 24], dndr: [f64; 24], idim: usize) -> [f64; 3]
+    requires { ⌜ idim < 3 ⌝ }
+    ensures { λ r. ⌜ r ≡ tabulate 3 (jacobianOn 8 (now (p .entry)) dndr idim) ⌝ }
+{
+    [
+        dxdr_entry(*p, dndr, idim, 0),
+        dxdr_entry(*p, dndr, idim, 1),
+        dxdr_entry(*p, dndr, idim, 2),
+    ]
+}
+
 // The Jacobian from the slopes, row by row.
 pub fn dxdr_from_dndr(p: [f64; 24], dndr: [f64; 24]) -> [f64; 9]
     ensures { λ r. ⌜ r ≡ jacobian 8 p dndr ⌝ }
 {
-    let mut dxdr = [0.0; 9];
-    for idim in 0..3usize {
-        dxdr[3 * idim + 0] = dxdr_entry(p, dndr, idim, 0);
-        dxdr[3 * idim + 1] = dxdr_entry(p, dndr, idim, 1);
-        dxdr[3 * idim + 2] = dxdr_entry(p, dndr, idim, 2);
-    }
-    dxdr
+    let x = dxdr_row(&p, dndr, 0);
+    let y = dxdr_row(&p, dndr, 1);
+    let z = dxdr_row(&p, dndr, 2);
+    [x[0], x[1], x[2], y[0], y[1], y[2], z[0], z[1], z[2]]
 }
 
 pub fn dxdr(p: [f64; 24], pco: [f64; 3]) -> [f64; 9]
@@ -171,6 +181,17 @@ pub fn dxdr(p: [f64; 24], pco: [f64; 3]) -> [f64; 9]
 {
     let dndr = dndr(pco);
     dxdr_from_dndr(p, dndr)
+}
+
+// The same of corners that are lent, by a path of its own: with no other caller it is compiled into the C face.
+pub fn jacobian(p: &[f64; 24], pco: [f64; 3]) -> [f64; 9]
+    ensures { λ r. ⌜ r ≡ jacobianAt (now (p .entry)) pco ⌝ }
+{
+    let dndr = dndr(pco);
+    let x = dxdr_row(p, dndr, 0);
+    let y = dxdr_row(p, dndr, 1);
+    let z = dxdr_row(p, dndr, 2);
+    [x[0], x[1], x[2], y[0], y[1], y[2], z[0], z[1], z[2]]
 }
 
 // Axis idim of the image, from the shape values.

@@ -2,6 +2,7 @@
 // Corners are 18 floats, corner by corner, as is whatever has three floats a corner. Corners 0, 1, 2 are the bottom triangle, 3, 4, 5 the top.
 ghost use mathlib.Core.Path.{_≡_};
 ghost use Prim.Native.Nat.{_<_};
+ghost use Rattle.numbers.specs.Rule.{tabulate};
 ghost use Rattle.cell.specs.Image.{imageOn, jacobianOn, jacobian};
 ghost use Rattle.prism.specs.Wedge.{edges};
 ghost use Rattle.prism.specs.Shape.{shape, slopes, imageAt, jacobianAt};
@@ -82,17 +83,26 @@ fn dxdr_entry(p: [f64; 18], dndr: [f64; 18], idim: usize, ir: usize) -> f64
     dxdr
 }
 
+// Row idim of the Jacobian, from the slopes, of corners that are lent.
+fn dxdr_row(p: &[f64; 18], dndr: [f64; 18], idim: usize) -> [f64; 3]
+    requires { ⌜ idim < 3 ⌝ }
+    ensures { λ r. ⌜ r ≡ tabulate 3 (jacobianOn 6 (now (p .entry)) dndr idim) ⌝ }
+{
+    [
+        dxdr_entry(*p, dndr, idim, 0),
+        dxdr_entry(*p, dndr, idim, 1),
+        dxdr_entry(*p, dndr, idim, 2),
+    ]
+}
+
 // The Jacobian from the slopes, row by row.
 fn dxdr_from_dndr(p: [f64; 18], dndr: [f64; 18]) -> [f64; 9]
     ensures { λ r. ⌜ r ≡ jacobian 6 p dndr ⌝ }
 {
-    let mut dxdr = [0.0; 9];
-    for idim in 0..3usize {
-        dxdr[3 * idim + 0] = dxdr_entry(p, dndr, idim, 0);
-        dxdr[3 * idim + 1] = dxdr_entry(p, dndr, idim, 1);
-        dxdr[3 * idim + 2] = dxdr_entry(p, dndr, idim, 2);
-    }
-    dxdr
+    let x = dxdr_row(&p, dndr, 0);
+    let y = dxdr_row(&p, dndr, 1);
+    let z = dxdr_row(&p, dndr, 2);
+    [x[0], x[1], x[2], y[0], y[1], y[2], z[0], z[1], z[2]]
 }
 
 pub fn dxdr(p: [f64; 18], pco: [f64; 3]) -> [f64; 9]
@@ -100,6 +110,17 @@ pub fn dxdr(p: [f64; 18], pco: [f64; 3]) -> [f64; 9]
 {
     let dndr = dndr(pco);
     dxdr_from_dndr(p, dndr)
+}
+
+// The same of corners that are lent, by a path of its own: with no other caller it is compiled into the C face.
+pub fn jacobian(p: &[f64; 18], pco: [f64; 3]) -> [f64; 9]
+    ensures { λ r. ⌜ r ≡ jacobianAt (now (p .entry)) pco ⌝ }
+{
+    let dndr = dndr(pco);
+    let x = dxdr_row(p, dndr, 0);
+    let y = dxdr_row(p, dndr, 1);
+    let z = dxdr_row(p, dndr, 2);
+    [x[0], x[1], x[2], y[0], y[1], y[2], z[0], z[1], z[2]]
 }
 
 // Axis idim of the image, from the shape values.
