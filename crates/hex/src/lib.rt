@@ -180,7 +180,10 @@ pub fn dxdr(p: [f64; 24], pco: [f64; 3]) -> [f64; 9]
     ensures { λ r. ⌜ r ≡ jacobianAt p pco ⌝ }
 {
     let dndr = dndr(pco);
-    dxdr_from_dndr(p, dndr)
+    let x = dxdr_row(&p, dndr, 0);
+    let y = dxdr_row(&p, dndr, 1);
+    let z = dxdr_row(&p, dndr, 2);
+    [x[0], x[1], x[2], y[0], y[1], y[2], z[0], z[1], z[2]]
 }
 
 // The same of corners that are lent, by a path of its own: with no other caller it is compiled into the C face.

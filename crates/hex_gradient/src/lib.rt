@@ -2,7 +2,7 @@
 ghost use mathlib.Core.Path.{_≡_};
 ghost use mathlib.Core.List.{[], _∷_};
 ghost use Prim.Native.Nat.{_<_};
-ghost use Rattle.binary64.specs.Answer.{answered, refused};
+ghost use Rattle.binary64.specs.Answer.{Wrote};
 ghost use Rattle.cell.specs.Points.{pointCount};
 ghost use Rattle.hex_gradient.specs.Gradient.{gradientDet, slopeInSpace, slopesInSpace};
 ghost use Rattle.hex_gradient.specs.Gradient.{gradient, shapeGradient, atPoints, weightedGradient, recorded};
@@ -65,14 +65,23 @@ fn dndx_from_drdx(dndr: [f64; 24], drdx: [f64; 9]) -> [f64; 24]
     dndx
 }
 
-pub fn grad_shapefunc_from_dndr(node2xyz: [f64; 24], dndr: [f64; 24]) -> Gradient
-    ensures { λ r. ⌜ r ≡ gradient node2xyz dndr ⌝ }
+// The gradient from the slopes, of arrays that are lent: the slopes in space go to `dndx`, and the determinant is returned.
+pub fn slopes_into(node2xyz: &[f64; 24], dndr: &[f64; 24], dndx: &mut [f64; 24]) -> f64
+    ensures { λ r. ⌜ (r ≡ gradient (now (node2xyz .entry)) (now (dndr .entry)) .detjac) × (now (dndx .exit) ≡ gradient (now (node2xyz .entry)) (now (dndr .entry)) .dndx) ⌝ }
 {
-    let dxdr = hex::dxdr_from_dndr(node2xyz, dndr);
+    let dxdr = hex::dxdr_from_dndr(*node2xyz, *dndr);
     let detjac = detjac(dxdr);
     let inv_jac = 1.0 / detjac;
     let drdx = mat3_col_major::scaled_cofactors(inv_jac, dxdr);
-    let dndx = dndx_from_drdx(dndr, drdx);
+    *dndx = dndx_from_drdx(*dndr, drdx);
+    detjac
+}
+
+pub fn grad_shapefunc_from_dndr(node2xyz: [f64; 24], dndr: [f64; 24]) -> Gradient
+    ensures { λ r. ⌜ r ≡ gradient node2xyz dndr ⌝ }
+{
+    let mut dndx = [0.0; 24];
+    let detjac = slopes_into(&node2xyz, &dndr, &mut dndx);
     Gradient { dndx, detjac }
 }
 
@@ -91,42 +100,59 @@ pub fn dndx(node2xyz: [f64; 24], r0: f64, r1: f64, r2: f64) -> ShapeGradient
     }
 }
 
-// The gradient at three points that the list has.
+// The same at a place, as `slopes_into` has it from the slopes there.
+fn slopes_at(node2xyz: &[f64; 24], pco: [f64; 3], dndx: &mut [f64; 24]) -> f64
+    ensures { λ r. ⌜ (r ≡ shapeGradient (now (node2xyz .entry)) pco .detjac) × (now (dndx .exit) ≡ shapeGradient (now (node2xyz .entry)) pco .dndx) ⌝ }
+{
+    let dndr = hex::dndr(pco);
+    slopes_into(node2xyz, &dndr, dndx)
+}
+
+// The gradient at three points that the list has: the slopes go to `dndx`, and the weighted determinant is returned.
 fn grad_at_points(
-    node2xyz: [f64; 24],
+    node2xyz: &[f64; 24],
     quadrature: &[f64],
     ir1: usize,
     ir2: usize,
     ir3: usize,
-) -> WeightedGradient
+    dndx: &mut [f64; 24],
+) -> f64
     requires { ⌜ (ir1 < pointCount 2 (now quadrature)) × (ir2 < pointCount 2 (now quadrature)) × (ir3 < pointCount 2 (now quadrature)) ⌝ }
-    ensures { λ r. ⌜ r ≡ recorded (answered (atPoints node2xyz (now (quadrature .entry)) ir1 ir2 ir3)) ⌝ }
+    ensures { λ r. ⌜ (now (dndx .exit), r) ≡ atPoints (now (node2xyz .entry)) (now (quadrature .entry)) ir1 ir2 ir3 ⌝ }
 {
     let r1 = quadrature[2 * ir1];
     let r2 = quadrature[2 * ir2];
     let r3 = quadrature[2 * ir3];
-    let g = dndx(node2xyz, r1, r2, r3);
-    let detwei = g.detjac
-        * quadrature[2 * ir1 + 1]
-        * quadrature[2 * ir2 + 1]
-        * quadrature[2 * ir3 + 1];
-    let dndx = g.dndx;
-    WeightedGradient {
-        outcome: Outcome::Given,
-        dndx,
-        detwei,
-    }
+    let detjac = slopes_at(node2xyz, [r1, r2, r3], dndx);
+    detjac * quadrature[2 * ir1 + 1] * quadrature[2 * ir2 + 1] * quadrature[2 * ir3 + 1]
 }
 
-// A refused record holds plus zeros beside its number.
-fn refusal(number: u32) -> WeightedGradient
-    ensures { λ r. ⌜ r ≡ recorded (refused number) ⌝ }
+// The gradient at three points of a list, of corners that are lent, into `dndx` and `detwei`; or the number of the refusal.
+pub fn weighted_gradient(
+    node2xyz: &[f64; 24],
+    quadrature: &[f64],
+    ir1: usize,
+    ir2: usize,
+    ir3: usize,
+    dndx: &mut [f64; 24],
+    detwei: &mut f64,
+) -> u32
+    ensures { λ r. ⌜ Wrote (weightedGradient (now (node2xyz .entry)) (now (quadrature .entry)) ir1 ir2 ir3) r (now (dndx .entry), now (detwei .entry)) (now (dndx .exit), now (detwei .exit)) ⌝ }
 {
-    WeightedGradient {
-        outcome: Outcome::Refused(number),
-        dndx: [0.0; 24],
-        detwei: 0.0,
+    let nq = quadrature.len() / 2;
+    let not_whole = quadrature.len() % 2 != 0;
+    let not_one_to_16 = (nq < 1) | (16 < nq);
+    if not_whole {
+        return 8;
     }
+    if not_one_to_16 {
+        return 7;
+    }
+    if nq <= ir1 || nq <= ir2 || nq <= ir3 {
+        return 9;
+    }
+    *detwei = grad_at_points(node2xyz, quadrature, ir1, ir2, ir3, dndx);
+    0
 }
 
 pub fn grad_shapefunc(
@@ -138,17 +164,20 @@ pub fn grad_shapefunc(
 ) -> WeightedGradient
     ensures { λ r. ⌜ r ≡ recorded (weightedGradient node2xyz (now (quadrature .entry)) ir1 ir2 ir3) ⌝ }
 {
-    let nq = quadrature.len() / 2;
-    let not_whole = quadrature.len() % 2 != 0;
-    let not_one_to_16 = (nq < 1) | (16 < nq);
-    if not_whole {
-        return refusal(8);
+    let mut dndx = [0.0; 24];
+    let mut detwei = 0.0;
+    let number = weighted_gradient(&node2xyz, quadrature, ir1, ir2, ir3, &mut dndx, &mut detwei);
+    let given = number == 0;
+    if given {
+        return WeightedGradient {
+            outcome: Outcome::Given,
+            dndx,
+            detwei,
+        };
     }
-    if not_one_to_16 {
-        return refusal(7);
+    WeightedGradient {
+        outcome: Outcome::Refused(number),
+        dndx,
+        detwei,
     }
-    if nq <= ir1 || nq <= ir2 || nq <= ir3 {
-        return refusal(9);
-    }
-    grad_at_points(node2xyz, quadrature, ir1, ir2, ir3)
 }

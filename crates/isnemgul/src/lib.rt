@@ -4,8 +4,6 @@ use cell::Located;
 use cell::Measured;
 use cell::Point;
 use descendant::Descended;
-use hex_gradient::Outcome;
-use hex_gradient::WeightedGradient;
 use hex_iso::IsoMask;
 use hex_iso::IsoPosition;
 use hxm::Reading;
@@ -23,7 +21,7 @@ ghost use Rattle.cell.specs.Newton.{told};
 ghost use Rattle.cell.specs.Points.{told as volumeTold};
 ghost use Rattle.hex.specs.Shape as Hex;
 ghost use Rattle.hex_locate.specs.Locate.{located as hexLocated};
-ghost use Rattle.hex_gradient.specs.Gradient.{gradient, shapeGradient, weightedGradient, told as gradientTold};
+ghost use Rattle.hex_gradient.specs.Gradient.{gradient, shapeGradient, weightedGradient};
 ghost use Rattle.hex_volume.specs.Volume.{volume as hexVolume};
 ghost use Rattle.hex_iso.specs.Cut.{isoMask, maskTold};
 ghost use Rattle.hex_iso.specs.Position.{isoPosition, isoEdges, positionTold};
@@ -103,21 +101,6 @@ fn put_mask(found: IsoMask, out: &mut u32) -> u32
             0
         }
         IsoMask::Refused(n) => n,
-    }
-}
-
-fn put_gradient(found: WeightedGradient, dndx: &mut [f64; 24], detwei: &mut f64) -> u32
-    ensures { λ r. ⌜ Wrote (gradientTold found) r (now (dndx .entry), now (detwei .entry)) (now (dndx .exit), now (detwei .exit)) ⌝ }
-{
-    let outcome = found.outcome;
-    let gradient = found.dndx;
-    match outcome {
-        Outcome::Given => {
-            *dndx = gradient;
-            *detwei = found.detwei;
-            0
-        }
-        Outcome::Refused(n) => n,
     }
 }
 
@@ -254,10 +237,7 @@ pub extern "C" fn isn_hex_grad_shapefunc_from_dndr(
 ) -> u32
     ensures { λ r. ⌜ (r ≡ 0) × (now (dndx .exit) ≡ gradient (now (corners .entry)) (now (dndr .entry)) .dndx) × (now (detjac .exit) ≡ gradient (now (corners .entry)) (now (dndr .entry)) .detjac) ⌝ }
 {
-    let found = hex_gradient::grad_shapefunc_from_dndr(*corners, *dndr);
-    let gradient = found.dndx;
-    *dndx = gradient;
-    *detjac = found.detjac;
+    *detjac = hex_gradient::slopes_into(corners, dndr, dndx);
     0
 }
 
@@ -292,11 +272,7 @@ pub extern "C" fn isn_hex_grad_shapefunc(
 ) -> u32
     ensures { λ r. ⌜ Wrote (weightedGradient (now (corners .entry)) (now (points .entry)) i1 i2 i3) r (now (dndx .entry), now (detwei .entry)) (now (dndx .exit), now (detwei .exit)) ⌝ }
 {
-    put_gradient(
-        hex_gradient::grad_shapefunc(*corners, points, wide(i1), wide(i2), wide(i3)),
-        dndx,
-        detwei,
-    )
+    hex_gradient::weighted_gradient(corners, points, wide(i1), wide(i2), wide(i3), dndx, detwei)
 }
 
 #[no_mangle]

@@ -1,4 +1,4 @@
--- `hex::dxdr` meets its contract: its two calls composed. Assumes nothing.
+-- `hex::dxdr` meets its contract: the slopes, and a row for each axis. Assumes nothing.
 use borrow.Author.Needs.{needs}
 use Rattle.hex.specs.Shape.{jacobianAt}
 use Rattle.hex.proofs.dxdr.Statement.{statement}
@@ -6,7 +6,26 @@ use Rattle.hex.proofs.dxdr.Tie as tie
 
 returns : tie.Need-returns
 unfolding jacobianAt
-returns c = simp (c .dxdr-from-dndr .ensures, c .before .dndr .ensures)
+returns c =
+    let second = c .before .before in
+    let first = second .before .before in
+    simp (c .dxdr-row3 .ensures, second .dxdr-row2 .ensures, first .dxdr-row .ensures, first .before .before .dndr .ensures)
 
 pub dxdr-spec : {M : Type 1} → statement M
-dxdr-spec = tie.close (tie.spec (λ c κs. search needs) (λ c κs. search needs) returns)
+dxdr-spec =
+    tie.close
+    (tie.spec
+    (λ c κs. search needs)
+    (λ c κs. search needs)
+    (λ c κs. search needs)
+    (λ c κs. search needs)
+    (λ c. search needs)
+    (λ c. search needs)
+    (λ c. search needs)
+    (λ c. search needs)
+    (λ c. search needs)
+    (λ c. search needs)
+    (λ c. search needs)
+    (λ c. search needs)
+    (λ c. search needs)
+    returns)

@@ -6,7 +6,9 @@ use Rattle.hex_gradient.proofs.grad_at_points.Tie as tie
 
 returns : tie.Need-returns
 unfolding atPoints
-returns c = simp (c .before .before .before .before .before .dndx .ensures)
+returns c =
+    let call = c .before .before .before in
+    simp (call .slopes-at .ensures .0, call .slopes-at .ensures .1)
 
 pub grad-at-points-spec : {M : Type 1} → statement M
 grad-at-points-spec =

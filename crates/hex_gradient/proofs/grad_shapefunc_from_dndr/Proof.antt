@@ -1,30 +1,10 @@
--- `hex_gradient::grad_shapefunc_from_dndr` meets its contract: its four calls composed. Assumes nothing.
-use mathlib.Core.Path.{_≡_, _∙_, ap}
-use mathlib.Core.List.{List}
-use lib.Ieee.{Float}
+-- `hex_gradient::grad_shapefunc_from_dndr` meets its contract: the record of what was lent and what was returned. Assumes nothing.
 use borrow.Author.Needs.{needs}
-use Rattle.binary64.specs.Binary64.{_⊘_, f1}
-use Rattle.mat3_col_major.specs.Mat3.{scaledCofactors}
-use Rattle.hex_gradient.specs.Gradient.{gradientDet, slopesInSpace, fromJacobian}
-use Rattle.hex_gradient.specs.declared.Gradient.{Gradient}
 use Rattle.hex_gradient.proofs.grad_shapefunc_from_dndr.Statement.{statement}
 use Rattle.hex_gradient.proofs.grad_shapefunc_from_dndr.Tie as tie
 
-abbrev record-of : List Float → Float → Gradient
-record-of dndx det = record { dndx = dndx; detjac = det }
-
--- the results of the last three calls, at any Jacobian
-module _ (dndr jac drdx dndx : List Float) (det : Float) where
-  composed : det ≡ gradientDet jac → drdx ≡ scaledCofactors (f1 ⊘ det) jac → dndx ≡ slopesInSpace dndr drdx → record-of dndx det ≡ fromJacobian dndr jac
-  unfolding fromJacobian
-  composed is-det is-drdx is-dndx = simp (is-dndx, is-drdx, is-det)
-
 returns : tie.Need-returns
-returns c =
-    composed _ _ _ _ _ (c .before .before .detjac .ensures) (c .before .scaled-cofactors .ensures) (c .dndx-from-drdx .ensures)
-    ∙ ap (fromJacobian _) (c .before .before .before .dxdr-from-dndr .ensures)
+returns c = simp (c .slopes-into .ensures .0, c .slopes-into .ensures .1)
 
 pub grad-shapefunc-from-dndr-spec : {M : Type 1} → statement M
-grad-shapefunc-from-dndr-spec =
-    tie.close
-    (tie.spec (λ c κs. search needs) (λ c κs. search needs) (λ c κs. search needs) (λ c κs. search needs) returns)
+grad-shapefunc-from-dndr-spec = tie.close (tie.spec (λ c κs. search needs) returns)
