@@ -4,17 +4,16 @@ use native.Mathlib.Nat.{eq-or-lt-of-le, le-of-suc-le-suc, not-suc-le-zero}
 use native.Mathlib.Numerals.{add-one}
 use native.Mathlib.Omega.{arith}
 use mathlib.Core.Path.{_≡_, refl}
-use mathlib.Core.Bool.{Bool, true, false, _&&_, false≢true}
+use mathlib.Core.Bool.{Bool, true, false, _&&_}
 use mathlib.Core.Logic.{⊎-elim}
 use Rattle.numbers.specs.Rule.{all}
+use Rattle.numbers.proofs.Tests.{holds, is-true, first, second, all-at}
 
 pub left-true : (a b : Bool) → (a && b) ≡ true → a ≡ true
-left-true true b h = refl
-left-true false b h = absurd (false≢true h)
+left-true a b h = is-true a (first a b (holds (a && b) h))
 
 pub right-true : (a b : Bool) → (a && b) ≡ true → b ≡ true
-right-true true b h = h
-right-true false b h = absurd (false≢true h)
+right-true a b h = is-true b (second a b (holds (a && b) h))
 
 right-false : (a b : Bool) → b ≡ false → (a && b) ≡ false
 right-false true b h = h
@@ -33,12 +32,7 @@ module _ (p : ℕ → Bool) where
       (eq-or-lt-of-le (le-of-suc-le-suc h))
 
   pub all-each : (n : ℕ) → all n p ≡ true → (k : ℕ) → k < n → p k ≡ true
-  all-each zero t k h = absurd (not-suc-le-zero h)
-  all-each (suc n) t k h =
-      ⊎-elim
-      (λ (same : k ≡ n). rw same (left-true (p n) (all n p) t))
-      (all-each n (right-true (p n) (all n p) t) k)
-      (eq-or-lt-of-le (le-of-suc-le-suc h))
+  all-each n t k h = is-true (p k) (all-at n p (holds (all n p) t) k h)
 
   pub all-where : (n : ℕ) → ((k : ℕ) → k < n → p k ≡ true) → all n p ≡ true
   all-where zero f = refl

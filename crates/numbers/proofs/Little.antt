@@ -9,7 +9,8 @@ use lib.ListN.{length, getD, set, take, drop, length-append, length-drop}
 use lib.Seq.{length-take-le, drop-cons, drop-drop, take-add, take-at, drop-at, getD-take, getD-drop}
 use Rattle.numbers.specs.Rule.{tabulate}
 use Rattle.numbers.specs.Little.{little, numberAt, numbersAt, bytes, allBytes, Below, LittleEndian}
-use Rattle.numbers.proofs.Stored.{tabulate-alike, stored-more}
+use Rattle.numbers.proofs.Prefix.{tabulate-where}
+use Rattle.numbers.proofs.Stored.{stored-more}
 
 little-append : (xs ys : List ℕ) → little (xs ++ ys) ≡ little xs + 256 ^ length xs * little ys
 unfolding little
@@ -113,7 +114,7 @@ numbers-back w (x ∷ xs) before after h =
     let whole : s ≡ next ++ rest = parts ∙ sym (append-assoc before (bytes w x) rest) in
     let moved : (i : ℕ) → length before + w * suc i ≡ length next + w * i = λ i. rw (length-append before (bytes w x), length-bytes w x) (omega arith) in
     let alike : tabulate (length xs) (λ (i : ℕ). numberAt s w (length before + w * suc i)) ≡ numbersAt (next ++ rest) w (length next) (length xs) =
-    tabulate-alike (length xs) _ _ (λ i. ap₂ (λ (l : List ℕ) (at : ℕ). numberAt l w at) whole (moved i))
+    tabulate-where (length xs) _ _ (λ i _. ap₂ (λ (l : List ℕ) (at : ℕ). numberAt l w at) whole (moved i))
     in
     ap₂ (λ (y : ℕ) (ys : List ℕ). y ∷ ys) first (alike ∙ numbers-back w xs next after (below-rest (256 ^ w) x xs h))
 
@@ -125,7 +126,7 @@ all-bytes-back w at (suc n) s h fits =
     let first : bytes w (numberAt s w (at + w * 0)) ≡ take w (drop at s) = rw here (number-bytes s w at h (omega arith)) in
     let moved : (i : ℕ) → at + w * suc i ≡ at + w + w * i = λ i. omega arith in
     let rest : allBytes w (tabulate n (λ (i : ℕ). numberAt s w (at + w * suc i))) ≡ take (w * n) (drop (at + w) s) =
-    ap (allBytes w) (tabulate-alike n _ _ (λ i. ap (numberAt s w) (moved i))) ∙ all-bytes-back w (at + w) n s h (omega arith)
+    ap (allBytes w) (tabulate-where n _ _ (λ i _. ap (numberAt s w) (moved i))) ∙ all-bytes-back w (at + w) n s h (omega arith)
     in
     let whole : w * suc n ≡ w + w * n = omega arith in
     rw (first, rest, whole, take-add w (w * n) (drop at s), drop-drop w at s)

@@ -1,7 +1,7 @@
 -- Lists by rule, longer by one, and what a loop leaves that stores f i at i. Assumes nothing.
 use Prim.Native.Nat.{ℕ, zero, suc, _+_, _<_}
 use native.Mathlib.Numerals.{add-one}
-use mathlib.Core.Path.{_≡_, refl, sym, _∙_, ap, ap₂}
+use mathlib.Core.Path.{_≡_, refl, sym, _∙_, ap}
 use mathlib.Core.List.{List, [], _∷_, _++_}
 use lib.ListN.{length, getD, drop, set}
 use lib.Seq.{drop-cons, set-at, append-snoc}
@@ -11,10 +11,6 @@ module _ {ℓ} {A : Type ℓ} where
   pub length-tabulate : (n : ℕ) (f : ℕ → A) → length (tabulate n f) ≡ n
   length-tabulate zero f = refl
   length-tabulate (suc n) f = ap suc (length-tabulate n (λ (i : ℕ). f (suc i)))
-
-  pub tabulate-alike : (n : ℕ) (f g : ℕ → A) → ((i : ℕ) → f i ≡ g i) → tabulate n f ≡ tabulate n g
-  tabulate-alike zero f g e = refl
-  tabulate-alike (suc n) f g e = ap₂ (λ (x : A) (xs : List A). x ∷ xs) (e 0) (tabulate-alike n (λ (i : ℕ). f (suc i)) (λ (i : ℕ). g (suc i)) (λ i. e (suc i)))
 
   pub tabulate-more : (n : ℕ) (f : ℕ → A) → tabulate (suc n) f ≡ tabulate n f ++ (f n ∷ [])
   tabulate-more zero f = refl

@@ -1,11 +1,20 @@
 -- Facts from computed tests. Assumes nothing.
 use Prim.Native.Nat.{ℕ, zero, suc, _<_}
 use native.Mathlib.Nat.{eq-or-lt-of-le, le-of-suc-le-suc, not-suc-le-zero}
-use mathlib.Core.Path.{_≡_, subst, sym}
-use mathlib.Core.Bool.{Bool, true, false, _&&_}
+use mathlib.Core.Path.{_≡_, refl, subst, sym}
+use mathlib.Core.Bool.{Bool, true, false, _&&_, false≢true}
 use mathlib.Core.Logic.{⊎-elim}
 use lib.Dec.{T}
 use Rattle.numbers.specs.Rule.{all}
+
+-- a test that is true, and its being so
+pub holds : (b : Bool) → b ≡ true → T b
+holds true e = tt
+holds false e = absurd (false≢true e)
+
+pub is-true : (b : Bool) → T b → b ≡ true
+is-true true t = refl
+is-true false t = absurd t
 
 pub first : (a b : Bool) → T (a && b) → T a
 first true b t = tt
