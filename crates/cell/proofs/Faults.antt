@@ -10,7 +10,7 @@ use mathlib.Core.List.{List}
 use lib.Dec.{eqb, ltb, eqb·suc-zero}
 use lib.ListN.{length}
 use borrow.Author.Tests.{ne-eqb, eqb-false, ltb-true, lt-ltb, not-true}
-use Rattle.numbers.proofs.All.{all-each, all-where}
+use Rattle.numbers.proofs.All.{all-each, all-where, all-alike}
 use Rattle.cell.specs.Faults.{node, differs, newAt, inRange, different, fault, faultAt, orElse, firstTo, Sound, FaultlessIsSound}
 
 no-test : (a b : Bool) → _≡_ {A = ℕ} (cond a (cond b 0 10) 9) 0 → (a ≡ true) × (b ≡ true)
@@ -37,6 +37,17 @@ module _ (n k : ℕ) (name : ℕ → ℕ) where
         below = λ j h. ltb-true (name j) n (all-each (λ (j : ℕ). ltb (name j) n) k (tests .0) j h);
         apart = λ i j h l. eqb-false (name i) (name j) (not-true (eqb (name i) (name j)) (new i j h l));
       }
+
+-- cells whose corners have the same names have the same fault
+module _ (n k : ℕ) (name name′ : ℕ → ℕ) (same : (j : ℕ) → j < k → name j ≡ name′ j) where
+  pub fault-alike : fault n k name ≡ fault n k name′
+  fault-alike =
+      let ranged : inRange n k name ≡ inRange n k name′ =
+      all-alike (λ (j : ℕ). ltb (name j) n) (λ (j : ℕ). ltb (name′ j) n) k (λ j h. rw (same j h)) in
+      let apart : different k name ≡ different k name′ =
+      all-alike (newAt name) (newAt name′) k
+      (λ j h. all-alike (differs name j) (differs name′ j) j (λ i below. rw (same i (omega arith), same j h))) in
+      rw (ranged, apart)
 
 earlier-none : (a b : ℕ) → orElse a b ≡ 0 → (a ≡ 0) × (b ≡ 0)
 earlier-none zero b e = (refl, e)

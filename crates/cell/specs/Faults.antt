@@ -11,6 +11,10 @@ use Rattle.numbers.specs.Rule.{all}
 abbrev pub node : ℕ → List ℕ → ℕ → ℕ → ℕ
 node k cells c j = getD cells (k * c + j) 0
 
+-- the same of a list that is one cell
+abbrev pub names : List ℕ → ℕ → ℕ
+names cell j = getD cell j 0
+
 -- no "node .. number out of range": each of k numbers is below n
 abbrev pub inRange : ℕ → ℕ → (ℕ → ℕ) → Bool
 inRange n k name = all k (λ (j : ℕ). ltb (name j) n)

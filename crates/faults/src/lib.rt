@@ -2,52 +2,50 @@
 ghost use mathlib.Core.Path.{_≡_};
 ghost use Prim.Native.Nat.{_+_, _*_, _≤_, _<_};
 ghost use lib.ListN.{length};
-ghost use Rattle.cell.specs.Faults.{node, inRange, newAt, different, faultAt, firstFault};
+ghost use Rattle.numbers.specs.Rule.{tabulate};
+ghost use Rattle.cell.specs.Faults.{node, names, inRange, newAt, different, fault, firstFault};
 
-// Whether every node of cell c is one of n.
-fn in_range(n: u32, cells: &[u32], c: usize) -> bool
-    requires { ⌜ 8 * c + 8 ≤ length (now cells) ⌝ }
-    ensures { λ r. ⌜ r ≡ inRange n 8 (node 8 (now (cells .entry)) c) ⌝ }
+// Whether every node of a cell is one of n.
+fn in_range(n: u32, cell: [u32; 8]) -> bool
+    ensures { λ r. ⌜ r ≡ inRange n 8 (names cell) ⌝ }
 {
     let mut ranged = true;
     for j in 0..8usize {
-        ranged = (cells[8 * c + j] < n) & ranged;
+        ranged = (cell[j] < n) & ranged;
     }
     ranged
 }
 
-// Whether node j of cell c differs from those before it.
-fn new_at(cells: &[u32], c: usize, j: usize) -> bool
-    requires { ⌜ (8 * c + 8 ≤ length (now cells)) × (j < 8) ⌝ }
-    ensures { λ r. ⌜ r ≡ newAt (node 8 (now (cells .entry)) c) j ⌝ }
+// Whether node j of a cell differs from those before it.
+fn new_at(cell: [u32; 8], j: usize) -> bool
+    requires { ⌜ j < 8 ⌝ }
+    ensures { λ r. ⌜ r ≡ newAt (names cell) j ⌝ }
 {
-    let x = cells[8 * c + j];
+    let x = cell[j];
     let mut new = true;
     for i in 0..j {
-        new = (cells[8 * c + i] != x) & new;
+        new = (cell[i] != x) & new;
     }
     new
 }
 
-// Whether cell c names no node twice.
-fn different(cells: &[u32], c: usize) -> bool
-    requires { ⌜ 8 * c + 8 ≤ length (now cells) ⌝ }
-    ensures { λ r. ⌜ r ≡ different 8 (node 8 (now (cells .entry)) c) ⌝ }
+// Whether a cell names no node twice.
+fn different(cell: [u32; 8]) -> bool
+    ensures { λ r. ⌜ r ≡ different 8 (names cell) ⌝ }
 {
     let mut apart = true;
     for j in 0..8usize {
-        apart = new_at(cells, c, j) & apart;
+        apart = new_at(cell, j) & apart;
     }
     apart
 }
 
 // 9 before 10, or 0 for a cell without a fault.
-fn fault_at(n: u32, cells: &[u32], c: usize) -> u32
-    requires { ⌜ 8 * c + 8 ≤ length (now cells) ⌝ }
-    ensures { λ r. ⌜ r ≡ faultAt n 8 (now (cells .entry)) c ⌝ }
+pub fn fault_of(n: u32, cell: [u32; 8]) -> u32
+    ensures { λ r. ⌜ r ≡ fault n 8 (names cell) ⌝ }
 {
-    let ranged = in_range(n, cells, c);
-    let apart = different(cells, c);
+    let ranged = in_range(n, cell);
+    let apart = different(cell);
     if !ranged {
         return 9;
     }
@@ -57,6 +55,23 @@ fn fault_at(n: u32, cells: &[u32], c: usize) -> u32
     0
 }
 
+// The nodes of cell c.
+fn cell_at(cells: &[u32], c: usize) -> [u32; 8]
+    requires { ⌜ 8 * c + 8 ≤ length (now cells) ⌝ }
+    ensures { λ r. ⌜ r ≡ tabulate 8 (node 8 (now (cells .entry)) c) ⌝ }
+{
+    [
+        cells[8 * c + 0],
+        cells[8 * c + 1],
+        cells[8 * c + 2],
+        cells[8 * c + 3],
+        cells[8 * c + 4],
+        cells[8 * c + 5],
+        cells[8 * c + 6],
+        cells[8 * c + 7],
+    ]
+}
+
 // The fault of the first cell that has one, or 0. Numbers behind the last whole cell are not looked at.
 pub fn first_fault(n: u32, cells: &[u32]) -> u32
     ensures { λ r. ⌜ r ≡ firstFault n 8 (now (cells .entry)) ⌝ }
@@ -64,7 +79,7 @@ pub fn first_fault(n: u32, cells: &[u32]) -> u32
     let count = cells.len() / 8;
     let mut c: usize = 0;
     while c < count {
-        let fault = fault_at(n, cells, c);
+        let fault = fault_of(n, cell_at(cells, c));
         if fault != 0 {
             return fault;
         }

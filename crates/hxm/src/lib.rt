@@ -80,14 +80,30 @@ fn put_numbers(bytes: &[u8], at: usize, count: usize, out: &mut [u32])
     }
 }
 
-// The first fault of the cells whose `count` numbers begin at `at`. They are looked at in a copy, so that a refusal leaves the lent lists alone.
-fn fault_at(bytes: &[u8], at: usize, count: usize, n: u32) -> u32
-    requires { ⌜ (at + 4 * count ≤ length (now bytes)) × (count ≤ 1024) ⌝ }
-    ensures { λ r. ⌜ r ≡ firstFault n 8 (numbersAt (now (bytes .entry)) 4 at count) ⌝ }
+// The eight numbers of the cell that begins at `at`.
+fn cell_at(bytes: &[u8], at: usize) -> [u32; 8]
+    requires { ⌜ at + 32 ≤ length (now bytes) ⌝ }
+    ensures { λ r. ⌜ r ≡ numbersAt (now (bytes .entry)) 4 at 8 ⌝ }
 {
-    let mut corners = [0u32; 1024];
-    put_numbers(bytes, at, count, &mut corners);
-    faults::first_fault(n, &corners[..count])
+    let mut cell = [0u32; 8];
+    put_numbers(bytes, at, 8, &mut cell);
+    cell
+}
+
+// The first fault of `count` cells that begin at `at`. Each is looked at in a copy, so that a refusal leaves the lent lists alone.
+fn fault_at(bytes: &[u8], at: usize, count: usize, n: u32) -> u32
+    requires { ⌜ at + 32 * count ≤ length (now bytes) ⌝ }
+    ensures { λ r. ⌜ r ≡ firstFault n 8 (numbersAt (now (bytes .entry)) 4 at (8 * count)) ⌝ }
+{
+    let mut c: usize = 0;
+    while c < count {
+        let fault = faults::fault_of(n, cell_at(bytes, at + 32 * c));
+        if fault != 0 {
+            return fault;
+        }
+        c += 1;
+    }
+    0
 }
 
 // What the file holds, whatever lists are lent.
@@ -118,7 +134,7 @@ fn judge(bytes: &[u8]) -> Reading
     if bytes.len() != end {
         return Reading::Refused(13);
     }
-    let fault = fault_at(bytes, cells_from, 8 * (c as usize), n);
+    let fault = fault_at(bytes, cells_from, c as usize, n);
     if fault != 0 {
         return Reading::Refused(fault);
     }

@@ -37,3 +37,7 @@ module _ (p : ℕ → Bool) where
   pub all-where : (n : ℕ) → ((k : ℕ) → k < n → p k ≡ true) → all n p ≡ true
   all-where zero f = refl
   all-where (suc n) f = rw (f n (omega arith)) (all-where n (λ k h. f k (omega arith)))
+
+pub all-alike : (p q : ℕ → Bool) (n : ℕ) → ((k : ℕ) → k < n → p k ≡ q k) → all n p ≡ all n q
+all-alike p q zero f = refl
+all-alike p q (suc n) f = rw (f n (omega arith), all-alike p q n (λ k h. f k (omega arith)))

@@ -4,15 +4,15 @@ use native.Mathlib.Numerals.{add-one}
 use native.Mathlib.Omega.{arith}
 use mathlib.Core.Path.{_≡_, refl}
 use borrow.Author.Needs.{needs}
-use Rattle.cell.specs.Faults.{node, different}
+use Rattle.cell.specs.Faults.{names, different}
 use Rattle.faults.proofs.different.Statement.{statement}
 use Rattle.faults.proofs.different.Tie as tie
 
 abbrev Inv-loop : tie.InvT-loop
-Inv-loop cells c apart₀ j₀ apart j = (j ≤ 8) × (apart ≡ different j (node 8 cells c))
+Inv-loop cell apart₀ j₀ apart j = (j ≤ 8) × (apart ≡ different j (names cell))
 
 abbrev μ-loop : tie.MeasureT-loop
-μ-loop cells c apart₀ j₀ apart j = 8 - j
+μ-loop cell apart₀ j₀ apart j = 8 - j
 
 loop-again : tie.Need-loop-again Inv-loop μ-loop
 loop-again c = (omega arith, rw (add-one, ← c .before .before .loop .inv .1, c .new-at .ensures))

@@ -1,11 +1,14 @@
 -- `faults::first_fault` meets its contract: the cells before c have no fault. Assumes nothing.
-use Prim.Native.Nat.{_+_, _-_, _/_, _≤_}
+use Prim.Native.Nat.{ℕ, _+_, _-_, _/_, _≤_}
 use native.Mathlib.Omega.{arith}
-use mathlib.Core.Path.{_≡_, refl, sym, _∙_}
+use mathlib.Core.Path.{_≡_, refl, sym, _∙_, ap}
+use mathlib.Core.List.{List}
 use borrow.Author.Needs.{needs}
 use lib.ListN.{length}
-use Rattle.cell.specs.Faults.{firstTo}
-use Rattle.cell.proofs.Faults.{first-more, first-stays}
+use Rattle.numbers.specs.Rule.{tabulate}
+use Rattle.cell.specs.Faults.{node, names, fault, faultAt, firstTo}
+use Rattle.numbers.proofs.Tabulate.{tabulate-at}
+use Rattle.cell.proofs.Faults.{first-more, first-stays, fault-alike}
 use Rattle.faults.proofs.first_fault.Statement.{statement}
 use Rattle.faults.proofs.first_fault.Tie as tie
 
@@ -15,23 +18,36 @@ Inv-loop n cells count c₀ c = (c ≤ length cells / 8) × (firstTo n 8 cells c
 abbrev μ-loop : tie.MeasureT-loop
 μ-loop n cells count c₀ c = count - c
 
+-- the fault of a copy is the cell's
+copied : (n c f : ℕ) (cells cell : List ℕ) → cell ≡ tabulate 8 (node 8 cells c) → f ≡ fault n 8 (names cell) → f ≡ faultAt n 8 cells c
+unfolding faultAt
+copied n c f cells cell copy e =
+    e ∙ ap (λ (xs : List ℕ). fault n 8 (names xs)) copy
+    ∙ fault-alike n 8 (names (tabulate 8 (node 8 cells c))) (node 8 cells c) (λ j h. tabulate-at 8 (node 8 cells c) 0 j h)
+
 loop-holds : tie.Need-loop-holds Inv-loop μ-loop
 unfolding firstTo
 loop-holds c = (omega arith, refl)
 
+looked : (c : tie.After-fault-of Inv-loop μ-loop)
+    → let turn = c .before .before .before in
+    let args = turn .before .before .args in
+    c .fault-of .result ≡ faultAt (args .n) 8 (args .cells .now) (turn .loop .c)
+looked c = copied _ _ _ _ _ (c .before .cell-at .ensures) (c .fault-of .ensures)
+
 returns : tie.Need-returns Inv-loop μ-loop
 returns c =
-    let turn = c .before .before .before in
+    let turn = c .before .before .before .before in
     let args = turn .before .before .args in
     let cells = args .cells .now in
-    let found = first-more (args .n) 8 cells (turn .loop .c) _ (turn .loop .inv .1) (c .before .fault-at .ensures) in
+    let found = first-more (args .n) 8 cells (turn .loop .c) _ (turn .loop .inv .1) (looked (c .before)) in
     sym (first-stays (args .n) 8 cells (turn .loop .c + 1) (length cells / 8) _ (omega arith) (c .if1 .taken) found)
 
 loop-again : tie.Need-loop-again Inv-loop μ-loop
 loop-again c =
-    let turn = c .before .before .before in
+    let turn = c .before .before .before .before in
     let args = turn .before .before .args in
-    (omega arith, first-more (args .n) 8 (args .cells .now) (turn .loop .c) _ (turn .loop .inv .1) (c .before .fault-at .ensures) ∙ c .if1 .left)
+    (omega arith, first-more (args .n) 8 (args .cells .now) (turn .loop .c) _ (turn .loop .inv .1) (looked (c .before)) ∙ c .if1 .left)
 
 returns-2 : tie.Need-returns-2 Inv-loop μ-loop
 returns-2 c =
@@ -45,6 +61,7 @@ first-fault-spec =
     Inv-loop
     μ-loop
     loop-holds
+    (λ c κs. search needs)
     (λ c κs. search needs)
     returns
     (λ c. search needs)

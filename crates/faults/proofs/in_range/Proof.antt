@@ -4,18 +4,18 @@ use native.Mathlib.Numerals.{add-one}
 use native.Mathlib.Omega.{arith}
 use mathlib.Core.Path.{_≡_, refl}
 use borrow.Author.Needs.{needs}
-use Rattle.cell.specs.Faults.{node, inRange}
+use Rattle.cell.specs.Faults.{names, inRange}
 use Rattle.faults.proofs.in_range.Statement.{statement}
 use Rattle.faults.proofs.in_range.Tie as tie
 
 abbrev Inv-loop : tie.InvT-loop
-Inv-loop n cells c ranged₀ j₀ ranged j = (j ≤ 8) × (ranged ≡ inRange n j (node 8 cells c))
+Inv-loop n cell ranged₀ j₀ ranged j = (j ≤ 8) × (ranged ≡ inRange n j (names cell))
 
 abbrev μ-loop : tie.MeasureT-loop
-μ-loop n cells c ranged₀ j₀ ranged j = 8 - j
+μ-loop n cell ranged₀ j₀ ranged j = 8 - j
 
 loop-again : tie.Need-loop-again Inv-loop μ-loop
-loop-again c = (omega arith, rw (add-one, ← c .before .before .loop .inv .1))
+loop-again c = (omega arith, rw (add-one, ← c .before .loop .inv .1))
 
 returns : tie.Need-returns Inv-loop μ-loop
 returns c =
@@ -29,8 +29,6 @@ in-range-spec =
     Inv-loop
     μ-loop
     (λ c. (omega arith, refl))
-    (λ c. search needs)
-    (λ c. search needs)
     (λ c. search needs)
     (λ c. search needs)
     (λ c. search needs)

@@ -5,22 +5,22 @@ use native.Mathlib.Omega.{arith}
 use mathlib.Core.Path.{_≡_, refl}
 use borrow.Author.Needs.{needs}
 use Rattle.numbers.specs.Rule.{all}
-use Rattle.cell.specs.Faults.{node, differs}
+use Rattle.cell.specs.Faults.{names, differs}
 use Rattle.faults.proofs.new_at.Statement.{statement}
 use Rattle.faults.proofs.new_at.Tie as tie
 
 abbrev Inv-loop : tie.InvT-loop
-Inv-loop cells c j x new₀ i₀ new i = (i ≤ j) × (new ≡ all i (differs (node 8 cells c) j))
+Inv-loop j cell x new₀ i₀ new i = (i ≤ j) × (new ≡ all i (differs (names cell) j))
 
 abbrev μ-loop : tie.MeasureT-loop
-μ-loop cells c j x new₀ i₀ new i = j - i
+μ-loop j cell x new₀ i₀ new i = j - i
 
 loop-again : tie.Need-loop-again Inv-loop μ-loop
-loop-again c = (omega arith, rw (add-one, ← c .before .before .loop .inv .1))
+loop-again c = (omega arith, rw (add-one, ← c .before .loop .inv .1))
 
 returns : tie.Need-returns Inv-loop μ-loop
 returns c =
-    let done : c .before .loop .i ≡ c .before .before .before .args .j = omega arith in
+    let done : c .before .loop .i ≡ c .before .before .args .j = omega arith in
     cc
 
 pub new-at-spec : {M : Type 1} → statement M
@@ -31,11 +31,7 @@ new-at-spec =
     μ-loop
     (λ c. search needs)
     (λ c. search needs)
-    (λ c. search needs)
-    (λ c. search needs)
     (λ c. (omega arith, refl))
-    (λ c. search needs)
-    (λ c. search needs)
     (λ c. search needs)
     (λ c. search needs)
     (λ c. search needs)

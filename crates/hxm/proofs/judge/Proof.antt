@@ -108,7 +108,6 @@ judge-spec =
     (λ c. search needs)
     returns-6
     (λ c. search needs)
-    (λ c. search needs)
     (λ c κs. search needs)
     returns-7
     returns-8)

@@ -1,18 +1,15 @@
--- `faults::fault_at` meets its contract: the two tests in the definition's order. Assumes nothing.
+-- `faults::fault_of` meets its contract: the two tests in the definition's order. Assumes nothing.
 use borrow.Author.Needs.{needs}
 use borrow.Author.Tests.{not-true, not-false}
-use Rattle.cell.specs.Faults.{faultAt}
-use Rattle.faults.proofs.fault_at.Statement.{statement}
-use Rattle.faults.proofs.fault_at.Tie as tie
+use Rattle.faults.proofs.fault_of.Statement.{statement}
+use Rattle.faults.proofs.fault_of.Tie as tie
 
 returns : tie.Need-returns
-unfolding faultAt
 returns c =
     let tests = c .before in
     rw (← tests .before .in-range .ensures, not-true (tests .before .in-range .result) (c .if1 .taken))
 
 returns-2 : tie.Need-returns-2
-unfolding faultAt
 returns-2 c =
     let tests = c .before .before in
     rw (
@@ -23,7 +20,6 @@ returns-2 c =
     )
 
 returns-3 : tie.Need-returns-3
-unfolding faultAt
 returns-3 c =
     let tests = c .before .before in
     rw (
@@ -33,5 +29,5 @@ returns-3 c =
       not-false (tests .different .result) (c .if2 .left),
     )
 
-pub fault-at-spec : {M : Type 1} → statement M
-fault-at-spec = tie.close (tie.spec (λ c κs. search needs) (λ c κs. search needs) returns returns-2 returns-3)
+pub fault-of-spec : {M : Type 1} → statement M
+fault-of-spec = tie.close (tie.spec (λ c κs. search needs) (λ c κs. search needs) returns returns-2 returns-3)
