@@ -65,7 +65,8 @@ fn row<I: 'static, A: Agrees<B> + 'static, B: 'static>(
     ours: impl Fn(&I, &mut B) -> u32 + 'static,
 ) -> Row {
     let agree = |theirs: &A, (): &(), number: &u32, value: &B| theirs.agrees(*number, value);
-    row_of(name, against, inputs, ((), move |i, _| theirs(i)), (empty, ours), agree)
+    let kept = (|answer: &A| _ = black_box(answer), |_: &u32| ());
+    row_of(name, against, inputs, ((), move |i, _| theirs(i)), (empty, ours), kept, agree)
 }
 
 /// A row against a function that returns a number and writes to a buffer, as ours does.
@@ -78,7 +79,8 @@ fn row_into<I: 'static, B: Clone + PartialEq + 'static>(
     ours: impl Fn(&I, &mut B) -> u32 + 'static,
 ) -> Row {
     let agree = |number: &u32, one: &B, of_ours: &u32, other: &B| number == of_ours && one == other;
-    row_of(name, against, inputs, (empty.clone(), theirs), (empty, ours), agree)
+    let kept = |number: &u32| _ = black_box(number);
+    row_of(name, against, inputs, (empty.clone(), theirs), (empty, ours), (kept, kept), agree)
 }
 
 fn row_of<I: 'static, A: 'static, B: 'static, C: 'static>(
@@ -87,11 +89,12 @@ fn row_of<I: 'static, A: 'static, B: 'static, C: 'static>(
     inputs: &Rc<[I]>,
     theirs: (B, impl Fn(&I, &mut B) -> A + 'static),
     ours: (C, impl Fn(&I, &mut C) -> u32 + 'static),
+    kept: (impl Fn(&A) + 'static, impl Fn(&u32) + 'static),
     agree: impl Fn(&A, &B, &u32, &C) -> bool + 'static,
 ) -> Row {
     let theirs = Rc::new(Side { buffer: RefCell::new(theirs.0), call: theirs.1 });
     let ours = Rc::new(Side { buffer: RefCell::new(ours.0), call: ours.1 });
-    let passes = (pass(inputs, &theirs), pass(inputs, &ours));
+    let passes = (pass(inputs, &theirs, kept.0), pass(inputs, &ours, kept.1));
     let inputs = Rc::clone(inputs);
     let calls = inputs.len();
     let agree = move || {
@@ -105,17 +108,19 @@ fn row_of<I: 'static, A: 'static, B: 'static, C: 'static>(
     Row { name, against, calls, part: 1.0, theirs, ours, agree: Box::new(agree) }
 }
 
-/// Answers stay where the call has put them, so that nothing but the call is timed.
-fn pass<I: 'static, B: 'static, A>(
+/// Answers stay where the call has put them, so that nothing but the call is timed. What has to be
+/// `kept` is a side's answer: the original's value, beside it our buffer; of two numbers both.
+fn pass<I: 'static, B: 'static, A: 'static>(
     inputs: &Rc<[I]>,
     side: &Rc<Side<B, impl Fn(&I, &mut B) -> A + 'static>>,
+    kept: impl Fn(&A) + 'static,
 ) -> Pass {
     let (inputs, side) = (Rc::clone(inputs), Rc::clone(side));
     Box::new(move || {
         let buffer = &mut *side.buffer.borrow_mut();
         for input in inputs.iter() {
             let answer = (side.call)(black_box(input), buffer);
-            black_box(&answer);
+            kept(&answer);
             black_box(&mut *buffer);
         }
     })
