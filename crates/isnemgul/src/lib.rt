@@ -34,7 +34,7 @@ ghost use Rattle.prism_volume.specs.Volume.{volumeAnswer as prismVolume};
 ghost use Rattle.prism_children.specs.Children.{children as prismChildren};
 ghost use Rattle.descendant.specs.Place.{descended, told as descendedTold};
 ghost use Rattle.hxm.specs.Reads.{told as readingTold, counts as countsOf, coordsOf, cornersOf, meshInto};
-ghost use Rattle.refine.specs.Refine.{refined, outputAfter, told as refinedTold};
+ghost use Rattle.refine.specs.Refine.{refined, childrenIn, told as refinedTold};
 
 fn wide(x: u32) -> usize
     ensures { λ r. ⌜ r ≡ x ⌝ }
@@ -443,7 +443,7 @@ pub extern "C" fn isn_prism_subdivide(
 #[no_mangle]
 pub extern "C" fn isn_refine(n: u32, cells: &[u32], out: &mut [u32], next: &mut u32) -> u32
     ensures answer { λ r. ⌜ Wrote (refined n (now (cells .entry)) (length (now (out .entry)))) r (now (next .entry)) (now (next .exit)) ⌝ }
-    ensures output { λ _. ⌜ now (out .exit) ≡ outputAfter (refined n (now (cells .entry)) (length (now (out .entry)))) n (now (cells .entry)) (now (out .entry)) ⌝ }
+    ensures output { λ _. ⌜ now (out .exit) ≡ left (childrenIn (refined n (now (cells .entry)) (length (now (out .entry)))) n (now (cells .entry))) (now (out .entry)) ⌝ }
 {
     put_refined(refine::refine(n, cells, out), next)
 }

@@ -5,12 +5,12 @@ use native.Mathlib.Omega.{arith}
 use mathlib.Core.Path.{_≡_, refl, sym, _∙_, ap, ap₂}
 use mathlib.Core.List.{List, [], _∷_, _++_}
 use lib.ListN.{length, getD, drop, List·getD-append}
-use Rattle.binary64.specs.Answer.{Answer, answered, refused}
+use Rattle.binary64.specs.Answer.{Answer, answered, refused, left}
 use Rattle.hxm.specs.Format.{nodeCount, meshAt, meshOf}
 use Rattle.hxm.proofs.Ladder.{Counted, passed-accepted}
 use Rattle.hxm.proofs.Long.{enough-to-tell}
-use Rattle.numbering.specs.Refinement.{cellCount, chain, childNumbers}
-use Rattle.refine.specs.Refine.{refined, outputAfter}
+use Rattle.numbering.specs.Refinement.{cellCount, childNumbers}
+use Rattle.refine.specs.Refine.{refined, allChildren, childrenIn}
 use Rattle.refine.proofs.Output.{chain-length}
 use Rattle.kids.specs.Text.{decimal, behind, joined, field, line, table}
 use Rattle.kids.specs.Kids.{headLine, report, refusedLine, shown, kidsOf, printed, EnoughToPrint}
@@ -34,16 +34,16 @@ module _ (w n : ℕ) (numbers rest : List ℕ) (whole : w * n ≤ length numbers
 
 module _ (n : ℕ) (cells : List ℕ) where
   abbrev kids : List ℕ
-  kids = chain (cellCount cells) (childNumbers n cells)
+  kids = allChildren n cells
 
   kids-long : length kids ≡ 64 * cellCount cells
   kids-long = chain-length 64 (childNumbers n cells) (λ d. refl) (cellCount cells)
 
-  pub reported : (next : ℕ) (a : Answer ℕ) (old out : List ℕ) → a ≡ answered next → a ≡ refined n cells 8192 → out ≡ outputAfter a n cells old
+  pub reported : (next : ℕ) (a : Answer ℕ) (old out : List ℕ) → a ≡ answered next → a ≡ refined n cells 8192 → out ≡ left (childrenIn a n cells) old
       → report (cellCount cells) next out ≡ shown (kidsOf n cells)
   unfolding kidsOf
   reported next a old out is e w =
-      let rest = drop (64 * cellCount cells) old in
+      let rest = drop (length kids) old in
       let output : out ≡ kids ++ rest = rw is at w in
       let answer : refined n cells 8192 ≡ answered next = sym e ∙ is in
       let lines : table 8 (kids ++ rest) (8 * cellCount cells) ≡ table 8 kids (8 * cellCount cells) = table-head 8 (8 * cellCount cells) kids rest (omega (arith, kids-long)) in

@@ -5,8 +5,8 @@ use mathlib.Core.List.{List, [], _∷_, _++_}
 use lib.ListN.{take}
 use Rattle.binary64.specs.Answer.{Answer, answered, refused, andThen}
 use Rattle.hxm.specs.Format.{Mesh, meshOf}
-use Rattle.numbering.specs.Refinement.{cellCount, chain, childNumbers}
-use Rattle.refine.specs.Refine.{refined}
+use Rattle.numbering.specs.Refinement.{cellCount}
+use Rattle.refine.specs.Refine.{refined, allChildren}
 use Rattle.kids.specs.Text.{decimal, newline, table}
 
 -- "cells ", " nodes " and "refused "
@@ -37,7 +37,7 @@ shown (refused k) = refusedLine k
 -- the children of a mesh, with room for those of 128 cells
 unfoldable pub kidsOf : ℕ → List ℕ → Answer (List ℕ)
 kidsOf n cells =
-    andThen (refined n cells 8192) (λ (next : ℕ). answered (report (cellCount cells) next (chain (cellCount cells) (childNumbers n cells))))
+    andThen (refined n cells 8192) (λ (next : ℕ). answered (report (cellCount cells) next (allChildren n cells)))
 
 -- what is printed for the bytes of a file
 unfoldable pub printed : List ℕ → List ℕ

@@ -4,14 +4,14 @@ use native.Mathlib.Nat.{le-refl, le-of-lt, lt-trans, lt-of-le-of-lt, mul-le-mul-
 use native.Mathlib.Numerals.{add-one}
 use native.Mathlib.Omega.{arith}
 use mathlib.Core.Path.{_≡_, refl, sym, _∙_}
-use mathlib.Core.Bool.{Bool, true, false, not, _||_, cond}
+use mathlib.Core.Bool.{Bool, true, false, not, cond}
 use mathlib.Core.List.{List, [], _∷_, _++_, map}
 use lib.Dec.{T, eqb, ltb, lit<}
 use lib.ListN.{length, getD, set, take, drop, length-map, List·getD-map}
 use lib.Seq.{length-take-le, length-front, take-length, paste-suc}
 use borrow.Author.Tests.{ltb-false}
 use Rattle.binary64.specs.Answer.{answered, refused, left}
-use Rattle.proposals.specs.Judgements.{unlessRefused, zeros, zerosIn, turnsOf}
+use Rattle.proposals.specs.Judgements.{unlessRefused, zeros, zerosIn, orNone, turnsOf}
 
 -- the place of element i, in bytes, is a usize
 pub place-fits : (i n size : ℕ) → i < n → n * size < 2 ^ 63 → i * size < 2 ^ 64
@@ -23,7 +23,7 @@ pub record Few (n room turns : ℕ) : Type 0 where
   pub in-room : turns ≤ room
   pub small : turns ≤ 256
 
-few-by : (n room : ℕ) (long short : Bool) → ltb 256 n ≡ long → ltb room n ≡ short → Few n room (cond (long || short) 0 n)
+few-by : (n room : ℕ) (long short : Bool) → ltb 256 n ≡ long → ltb room n ≡ short → Few n room (orNone (cond long (refused 7) (cond short (refused 8) (answered n))))
 few-by n room true short e f = record { in-list = zero-le; in-room = zero-le; small = zero-le }
 few-by n room false true e f = record { in-list = zero-le; in-room = zero-le; small = zero-le }
 few-by n room false false e f = record { in-list = le-refl n; in-room = ltb-false _ _ f; small = ltb-false _ _ e }
@@ -88,7 +88,7 @@ module _ (n room : ℕ) (js : List ℕ) (all : length js ≡ n) where
   unfolding turnsOf
   all-counted = by (ltb 256 n) (ltb room n)
     where
-      by : (y z : Bool) → cond y (refused 7) (cond z (refused 8) (answered (zeros (take (cond (y || z) 0 n) js))))
+      by : (y z : Bool) → cond y (refused 7) (cond z (refused 8) (answered (zeros (take (orNone (cond y (refused 7) (cond z (refused 8) (answered n)))) js))))
           ≡ zerosIn (cond y (refused 7) (cond z (refused 8) (answered js)))
       by true z = refl
       by false true = refl
@@ -98,7 +98,7 @@ module _ (n room : ℕ) (js : List ℕ) (all : length js ≡ n) where
   unfolding turnsOf
   all-written old = by (ltb 256 n) (ltb room n)
     where
-      by : (y z : Bool) → overwritten js old (cond (y || z) 0 n) ≡ left (cond y (refused 7) (cond z (refused 8) (answered js))) old
+      by : (y z : Bool) → overwritten js old (orNone (cond y (refused 7) (cond z (refused 8) (answered n)))) ≡ left (cond y (refused 7) (cond z (refused 8) (answered js))) old
       by true z = refl
       by false true = refl
       by false false = rw (all-taken, all)

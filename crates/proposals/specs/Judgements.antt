@@ -1,6 +1,6 @@
 -- A list of proposals, each judged by the distance check against one cell. Definitions and claims only.
 use Prim.Native.Nat.{ℕ}
-use mathlib.Core.Bool.{_||_, cond}
+use mathlib.Core.Bool.{cond}
 use mathlib.Core.List.{List, map}
 use lib.Dec.{eqb, ltb}
 use lib.Ieee.{Float}
@@ -33,8 +33,12 @@ abbrev pub zerosIn : Answer (List ℕ) → Answer ℕ
 zerosIn found = andThen found (λ (js : List ℕ). answered (zeros js))
 
 -- how many records are looked at: all, or none of a list that is refused
+abbrev pub orNone : Answer ℕ → ℕ
+orNone (answered n) = n
+orNone (refused number) = 0
+
 unfoldable pub turnsOf : ℕ → ℕ → ℕ
-turnsOf n room = cond (ltb 256 n || ltb room n) 0 n
+turnsOf n room = orNone (unlessRefused n room n)
 
 -- the number or the count of each case
 abbrev pub told : Judged → Answer ℕ

@@ -1,10 +1,10 @@
 -- What a refinement answers and leaves in the output. Document 01, "Refinement". Definitions and claims only.
 use Prim.Native.Nat.{ℕ, _*_, _%_}
 use mathlib.Core.Bool.{cond, not}
-use mathlib.Core.List.{List, _++_}
+use mathlib.Core.List.{List}
 use lib.Dec.{eqb, ltb}
-use lib.ListN.{length, drop}
-use Rattle.binary64.specs.Answer.{Answer, answered, refused, LosesNothing}
+use lib.ListN.{length}
+use Rattle.binary64.specs.Answer.{Answer, answered, refused, andThen, LosesNothing}
 use Rattle.cell.specs.Faults.{firstFault}
 use Rattle.numbering.specs.Refinement.{cellCount, chain, next, childNumbers}
 use Rattle.refine.specs.declared.Refined.{Refined}
@@ -20,14 +20,13 @@ refined n cells room =
     (cond (not (eqb (firstFault n 8 cells) 0)) (refused (firstFault n 8 cells))
     (answered (next n cells))))))
 
--- "Each cell's 64 child numbers go into the output part that starts at 64 times the cell's place; the rest of the output is untouched."
-abbrev pub written : ℕ → List ℕ → List ℕ → List ℕ
-written n cells out = chain (cellCount cells) (childNumbers n cells) ++ drop (64 * cellCount cells) out
+-- "Each cell's 64 child numbers go into the output part that starts at 64 times the cell's place"
+abbrev pub allChildren : ℕ → List ℕ → List ℕ
+allChildren n cells = chain (cellCount cells) (childNumbers n cells)
 
--- "A refusal .. leaves lent buffers untouched."
-abbrev pub outputAfter : Answer ℕ → ℕ → List ℕ → List ℕ → List ℕ
-outputAfter (answered free) n cells out = written n cells out
-outputAfter (refused number) n cells out = out
+-- what a refinement with this answer writes
+abbrev pub childrenIn : Answer ℕ → ℕ → List ℕ → Answer (List ℕ)
+childrenIn found n cells = andThen found (λ (free : ℕ). answered (allChildren n cells))
 
 -- the number and the value of each case
 abbrev pub told : Refined → Answer ℕ

@@ -6,12 +6,13 @@ ghost use Prim.Native.Nat.{_+_, _*_, _^_, _<_, _≤_, min, max};
 ghost use lib.Dec.{T};
 ghost use lib.ListN.{length, getD};
 ghost use Rattle.numbers.specs.Rule.{tabulate};
+ghost use Rattle.binary64.specs.Answer.{answered, left};
 ghost use Rattle.cell.specs.Edges.{end};
 ghost use Rattle.cell.specs.Faults.{node, firstFault};
 ghost use Rattle.hex.specs.Cube.{edges, idx2node};
 ghost use Rattle.numbering.specs.Refinement.{cellCount, edgeNodes, faceNodes, next};
 ghost use Rattle.numbering.specs.Keys.{packed, key, edgeKey, faceKey, apart};
-ghost use Rattle.refine.specs.Refine.{refined, written, outputAfter, told};
+ghost use Rattle.refine.specs.Refine.{refined, allChildren, childrenIn, told};
 ghost use Rattle.refine.specs.Search.{Finds, Numbers, Agrees, FacesDiffer, childrenOf};
 
 // The next free number, or a refusal's number.
@@ -196,7 +197,7 @@ fn write_children(
 fn refine_cells(n: u32, cells: &[u32], out: &mut [u32]) -> u32
     requires { ⌜ (n ≤ 1024) × (length (now cells) ≤ 1024) × (64 * cellCount (now cells) ≤ length (now out)) × (firstFault n 8 (now cells) ≡ 0) ⌝ }
     ensures free { λ r. ⌜ r ≡ next n (now (cells .entry)) ⌝ }
-    ensures output { λ _. ⌜ now (out .exit) ≡ written n (now (cells .entry)) (now (out .entry)) ⌝ }
+    ensures output { λ _. ⌜ now (out .exit) ≡ left (answered (allChildren n (now (cells .entry)))) (now (out .entry)) ⌝ }
 {
     let edge_keys = edge_keys(cells);
     let face_keys = face_keys(cells);
@@ -218,7 +219,7 @@ fn refine_cells(n: u32, cells: &[u32], out: &mut [u32]) -> u32
 // Refines a mesh of n nodes and eight node numbers a cell, into 64 numbers a cell.
 pub fn refine(n: u32, cells: &[u32], out: &mut [u32]) -> Refined
     ensures answer { λ r. ⌜ told r ≡ refined n (now (cells .entry)) (length (now (out .entry))) ⌝ }
-    ensures output { λ r. ⌜ now (out .exit) ≡ outputAfter (told r) n (now (cells .entry)) (now (out .entry)) ⌝ }
+    ensures output { λ r. ⌜ now (out .exit) ≡ left (childrenIn (told r) n (now (cells .entry))) (now (out .entry)) ⌝ }
 {
     if n > 1024 {
         return Refined::Refused(7);

@@ -10,7 +10,7 @@ use Rattle.cell.proofs.Faults.{faultless-is-sound}
 use Rattle.numbering.specs.Refinement.{cellCount, chain, given, childNumbers}
 use Rattle.numbering.proofs.Cells.{face-nodes}
 use Rattle.refine.proofs.Cell.{Standing, stands-first, one-more}
-use Rattle.refine.proofs.Output.{nothing-yet, part-more}
+use Rattle.refine.proofs.Output.{chain-length, nothing-yet, part-more}
 use Rattle.refine.proofs.refine_cells.Statement.{statement}
 use Rattle.refine.proofs.refine_cells.Tie as tie
 
@@ -61,8 +61,12 @@ loop-again c =
 returns : tie.Need-returns Inv-loop μ-loop
 unfolding given
 returns c =
-    let done : c .before .loop .cell ≡ cellCount (c .before .before .before .before .before .before .args .cells .now) = omega arith in
-    (rw done at (c .before .loop .inv .5 .of-next), rw done at (c .before .loop .inv .6))
+    let args = c .before .before .before .before .before .before .args in
+    let count = cellCount (args .cells .now) in
+    let done : c .before .loop .cell ≡ count = omega arith in (
+      rw done at (c .before .loop .inv .5 .of-next),
+      rw (chain-length 64 (childNumbers (args .n) (args .cells .now)) (λ d. refl) count) (rw done at (c .before .loop .inv .6)),
+    )
 
 pub refine-cells-spec : {M : Type 1} → statement M
 refine-cells-spec =
