@@ -224,7 +224,7 @@ pub extern "C" fn isn_hex_dndr(pco: &[f64; 3], out: &mut [f64; 24]) -> u32
 pub extern "C" fn isn_hex_dxdr(corners: &[f64; 24], pco: &[f64; 3], out: &mut [f64; 9]) -> u32
     ensures { λ r. ⌜ (r ≡ 0) × (now (out .exit) ≡ Hex.jacobianAt (now (corners .entry)) (now (pco .entry))) ⌝ }
 {
-    *out = hex::jacobian(corners, *pco);
+    hex::dxdr_into(corners, *pco, out);
     0
 }
 
@@ -401,7 +401,7 @@ pub extern "C" fn isn_prism_dndr(pco: &[f64; 3], out: &mut [f64; 18]) -> u32
 pub extern "C" fn isn_prism_dxdr(corners: &[f64; 18], pco: &[f64; 3], out: &mut [f64; 9]) -> u32
     ensures { λ r. ⌜ (r ≡ 0) × (now (out .exit) ≡ Prism.jacobianAt (now (corners .entry)) (now (pco .entry))) ⌝ }
 {
-    *out = prism::jacobian(corners, *pco);
+    prism::dxdr_into(corners, *pco, out);
     0
 }
 

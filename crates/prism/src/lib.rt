@@ -112,15 +112,18 @@ pub fn dxdr(p: [f64; 18], pco: [f64; 3]) -> [f64; 9]
     dxdr_from_dndr(p, dndr)
 }
 
-// The same of corners that are lent, by a path of its own: with no other caller it is compiled into the C face.
-pub fn jacobian(p: &[f64; 18], pco: [f64; 3]) -> [f64; 9]
-    ensures { λ r. ⌜ r ≡ jacobianAt (now (p .entry)) pco ⌝ }
+// The same of corners that are lent, into a lent output: row by row, with no other caller than the C face.
+pub fn dxdr_into(p: &[f64; 18], pco: [f64; 3], dxdr: &mut [f64; 9])
+    ensures { λ _. ⌜ now (dxdr .exit) ≡ jacobianAt (now (p .entry)) pco ⌝ }
 {
     let dndr = dndr(pco);
-    let x = dxdr_row(p, dndr, 0);
-    let y = dxdr_row(p, dndr, 1);
-    let z = dxdr_row(p, dndr, 2);
-    [x[0], x[1], x[2], y[0], y[1], y[2], z[0], z[1], z[2]]
+    *dxdr = [0.0; 9];
+    for idim in 0..3usize {
+        let row = dxdr_row(p, dndr, idim);
+        dxdr[3 * idim + 0] = row[0];
+        dxdr[3 * idim + 1] = row[1];
+        dxdr[3 * idim + 2] = row[2];
+    }
 }
 
 // Axis idim of the image, from the shape values.
