@@ -18,6 +18,35 @@ unsafe extern "C" {
         dndx: &mut [Place; 8],
         detwei: &mut f64,
     ) -> u32;
+    pub safe fn isn_hex_iso_position_on_edge(
+        center: &Place,
+        half_width: f64,
+        i0: u32,
+        i1: u32,
+        val0: f64,
+        val1: f64,
+        out: &mut Place,
+    ) -> u32;
+    pub safe fn isn_hex_iso_edges(
+        center: &Place,
+        half_width: f64,
+        values: &[f64; 8],
+        index: &mut u32,
+        positions: &mut [Place; 12],
+    ) -> u32;
+    pub safe fn isn_hex_subdivide(
+        corner: &[u32; 8],
+        edge: &[u32; 12],
+        quad: &[u32; 6],
+        center: u32,
+        out: &mut [[u32; 8]; 8],
+    ) -> u32;
+    pub safe fn isn_prism_subdivide(
+        corner: &[u32; 6],
+        edge: &[u32; 9],
+        quad: &[u32; 3],
+        out: &mut [[u32; 6]; 8],
+    ) -> u32;
     fn isn_hex_volume(corners: &Hex, points: *const f64, length: usize, out: &mut f64) -> u32;
     pub safe fn isn_hex_parametric_coord_for_origin(corners: &Hex, at: &mut Place) -> u32;
     pub safe fn isn_hex_check(corners: &Hex, at: &Place, tolerance: f64) -> u32;

@@ -8,7 +8,7 @@ use cases::answers::{line_table, triangle_table};
 use cases::cells::{HEXES, PRISMS, Shape};
 use cases::chance::Chance;
 use cases::original::{Hex, Place, Prism};
-use reference::{hex, prism};
+use reference::{hex, hex_opened, prism};
 
 use crate::ours::{self, *};
 use crate::plain::{self, Proposal};
@@ -182,6 +182,30 @@ fn hex_volume(corners: &Hex, degree: usize) -> f64 {
 }
 
 #[inline(never)]
+fn iso_position((center, i0, i1, [val0, val1]): &Cut, half_width: f64) -> Place {
+    let mut at = [0.0; 3];
+    let (i0, i1) = (*i0 as usize, *i1 as usize);
+    hex::iso_position_on_edge(&mut at, *center, half_width, i0, i1, *val0, *val1);
+    at
+}
+
+#[inline(never)]
+fn iso_edges(center: &Place, half_width: f64, values: &[f64; 8]) -> (u32, [Place; 12]) {
+    let (index, positions) = hex_opened::iso_surface_first_half(*center, half_width, values);
+    (index as u32, positions)
+}
+
+#[inline(never)]
+fn hex_subdivide((corner, edge, quad, center): &HexNodes) -> [[u32; 8]; 8] {
+    hex::subdivide(corner, edge, quad, *center)
+}
+
+#[inline(never)]
+fn prism_subdivide((corner, edge, quad): &PrismNodes) -> [[u32; 6]; 8] {
+    prism::subdivide(corner, edge, quad)
+}
+
+#[inline(never)]
 fn prism_volume(corners: &Prism, degree: usize) -> f64 {
     of_prism!(prism::volume, corners, degree)
 }
@@ -189,6 +213,21 @@ fn prism_volume(corners: &Prism, degree: usize) -> f64 {
 /// The original's locator, and then the check in plain Rust.
 fn locate_checked(corners: &Hex) -> Option<Place> {
     hex_locate(corners).filter(|at| plain::check(corners, at, TOLERANCE) == 0)
+}
+
+/// An edge that a surface cuts: the cube's centre, the ends and their values.
+type Cut = (Place, u32, u32, [f64; 2]);
+type HexNodes = ([u32; 8], [u32; 12], [u32; 6], u32);
+type PrismNodes = ([u32; 6], [u32; 9], [u32; 3]);
+
+const HALF_WIDTH: f64 = 0.75;
+
+fn numbers<const N: usize>(chance: &mut Chance) -> [u32; N] {
+    std::array::from_fn(|_| chance.below(1024) as u32)
+}
+
+fn floats<const N: usize>(chance: &mut Chance) -> [f64; N] {
+    std::array::from_fn(|_| chance.between(-1.0, 1.0))
 }
 
 /// A cell with the origin inside, and where the original locates it.
@@ -204,7 +243,9 @@ pub fn all() -> Vec<Row> {
     let chance = &mut Chance::new(1);
     let mut rows = locators(chance);
     rows.extend(hexahedron(chance));
+    rows.extend(surfaces(chance));
     rows.extend(prism(chance));
+    rows.extend(children(chance));
     rows.push(proposals(chance));
     rows.extend(meshes(chance));
     rows.push(files(chance));
@@ -289,6 +330,67 @@ fn hexahedron(chance: &mut Chance) -> Vec<Row> {
             |(corners, _)| hex_volume(corners, black_box(DEGREE)),
             0.0,
             |(corners, _), out| ours::hex_volume(corners, black_box(line), out),
+        ),
+    ]
+}
+
+/// A surface that cuts a cube.
+fn surfaces(chance: &mut Chance) -> Vec<Row> {
+    let cuts: Rc<[Cut]> = (0..INPUTS)
+        .map(|k| {
+            let [i0, i1] = hex::EDGE2NODE[k % 12].map(|i| i as u32);
+            (floats(chance), i0, i1, [chance.between(-1.0, 0.0), chance.between(0.0, 1.0)])
+        })
+        .collect();
+    let cubes: Rc<[(Place, [f64; 8])]> =
+        (0..INPUTS).map(|_| (floats(chance), floats(chance))).collect();
+    vec![
+        row(
+            "hex iso position",
+            "original",
+            &cuts,
+            |cut| iso_position(cut, black_box(HALF_WIDTH)),
+            [0.0; 3],
+            |(center, i0, i1, [val0, val1]), out| {
+                let half_width = black_box(HALF_WIDTH);
+                isn_hex_iso_position_on_edge(center, half_width, *i0, *i1, *val0, *val1, out)
+            },
+        ),
+        row(
+            "hex iso edges",
+            "original",
+            &cubes,
+            |(center, values)| iso_edges(center, black_box(HALF_WIDTH), values),
+            (0, [[0.0; 3]; 12]),
+            |(center, values), (index, positions)| {
+                isn_hex_iso_edges(center, black_box(HALF_WIDTH), values, index, positions)
+            },
+        ),
+    ]
+}
+
+fn children(chance: &mut Chance) -> Vec<Row> {
+    let hexes: Rc<[HexNodes]> = (0..INPUTS)
+        .map(|_| (numbers(chance), numbers(chance), numbers(chance), chance.below(1024) as u32))
+        .collect();
+    let prisms: Rc<[PrismNodes]> =
+        (0..INPUTS).map(|_| (numbers(chance), numbers(chance), numbers(chance))).collect();
+    vec![
+        row(
+            "hex subdivide",
+            "original",
+            &hexes,
+            hex_subdivide,
+            [[0; 8]; 8],
+            |(corner, edge, quad, center), out| isn_hex_subdivide(corner, edge, quad, *center, out),
+        ),
+        row(
+            "prism subdivide",
+            "original",
+            &prisms,
+            prism_subdivide,
+            [[0; 6]; 8],
+            |(corner, edge, quad), out| isn_prism_subdivide(corner, edge, quad, out),
         ),
     ]
 }

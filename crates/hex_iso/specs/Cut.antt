@@ -1,5 +1,5 @@
 -- Which edges of the cube the surface of value zero cuts. Definitions and claims only.
-use Prim.Native.Nat.{ℕ, _<_, _^_}
+use Prim.Native.Nat.{ℕ, _+_, _%_, _<_, _^_}
 use mathlib.Core.Path.{_≡_}
 use mathlib.Core.Bool.{Bool, cond}
 use mathlib.Core.List.{List}
@@ -24,6 +24,10 @@ cut index k = unlike (bit index (end edges k 0)) (bit index (end edges k 1))
 -- `ISO_EDGE` at this index: "bit k is set exactly when" edge k is cut
 unfoldable pub maskOf : ℕ → ℕ
 maskOf index = withBits 12 (cut index)
+
+-- the same of a square alone, whose edge k goes from corner k to the next
+abbrev pub cutAround : ℕ → ℕ
+cutAround square = withBits 4 (λ (k : ℕ). unlike (bit square k) (bit square ((k + 1) % 4)))
 
 -- 9 behind the 256 entries
 abbrev pub isoMask : ℕ → Answer ℕ

@@ -2,11 +2,14 @@
 use hex::EDGE2NODE;
 use hex::HEX_SIGN;
 ghost use mathlib.Core.Path.{_≡_};
+ghost use mathlib.Core.Bool.{cond};
 ghost use Prim.Native.Nat.{_<_};
+ghost use lib.Dec.{eqb};
 ghost use Rattle.numbers.specs.Bits.{bit};
 ghost use Rattle.numbers.specs.Rule.{tabulate, grid};
-ghost use Rattle.hex_iso.specs.Cut.{signIndex, maskOf, isoMask, maskTold};
-ghost use Rattle.hex_iso.specs.Position.{nodeOn, positionOn, isoPosition, positionTold, heldOn, edgeOn, isoEdges};
+ghost use Rattle.binary64.specs.Binary64.{f1, m1};
+ghost use Rattle.hex_iso.specs.Cut.{signIndex, cutAround, maskOf, isoMask, maskTold};
+ghost use Rattle.hex_iso.specs.Position.{sign, nodeOn, positionOn, isoPosition, positionTold, heldOn, edgeOn, isoEdges};
 
 // For each sign index the mask of the edges that are cut.
 pub const ISO_EDGE: [u32; 256] = [
@@ -304,6 +307,44 @@ pub fn iso_mask(index: u32) -> IsoMask
     IsoMask::Mask(iso_edge(index))
 }
 
+// Which of a square's edges are cut, by the bits of its corners: edge k goes from corner k to the next one.
+fn around(square: u32) -> u32
+    requires { ⌜ square < 16 ⌝ }
+    ensures { λ r. ⌜ r ≡ cutAround square ⌝ }
+{
+    square ^ ((square >> 1) | ((square & 1) << 3))
+}
+
+// The same entry of the table by the order of the edges: four around the bottom, four around the top, and four between them.
+fn cut_edges(cubeindex: u32) -> u32
+    requires { ⌜ cubeindex < 256 ⌝ }
+    ensures { λ r. ⌜ r ≡ maskOf cubeindex ⌝ }
+{
+    let bottom = cubeindex % 16;
+    let top = cubeindex / 16;
+    around(bottom) | (around(top) << 4) | ((bottom ^ top) << 8)
+}
+
+// The two signs.
+const LOWER: f64 = -1.;
+
+const UPPER: f64 = 1.;
+
+// An axis of a corner's sign, by whether it has a certain bit.
+fn side(bit: usize) -> f64
+    ensures { λ r. ⌜ r ≡ cond (eqb bit 0) m1 f1 ⌝ }
+{
+    if bit == 0 { LOWER } else { UPPER }
+}
+
+// `HEX_SIGN[i_node]` by the number's bits, so that no table is laid out.
+fn sign_of(i_node: usize) -> [f64; 3]
+    requires { ⌜ «i_node» < 8 ⌝ }
+    ensures { λ r. ⌜ r ≡ sign «i_node» ⌝ }
+{
+    [side((i_node + 1) & 2), side(i_node & 2), side(i_node & 4)]
+}
+
 // `HEX_SIGN[i_node].scale(hw).add(&cent)`
 fn node(sign: [f64; 3], hw: f64, cent: [f64; 3]) -> [f64; 3]
     ensures { λ r. ⌜ r ≡ tabulate 3 (nodeOn cent hw sign) ⌝ }
@@ -354,7 +395,7 @@ pub fn iso_position_on_edge(
     if 7 < i1_node {
         return IsoPosition::Refused(9);
     }
-    let p = position(cent, hw, HEX_SIGN[i0_node], HEX_SIGN[i1_node], val0, val1);
+    let p = position(cent, hw, sign_of(i0_node), sign_of(i1_node), val0, val1);
     IsoPosition::At(p[0], p[1], p[2])
 }
 
@@ -393,14 +434,20 @@ fn vert(
 }
 
 // What each edge holds, edge by edge.
-fn vert_list(center: [f64; 3], half_width: f64, corner_value: [f64; 8], e0: u32) -> [f64; 36]
+fn vert_list(
+    center: [f64; 3],
+    half_width: f64,
+    corner_value: [f64; 8],
+    e0: u32,
+    vertlist: &mut [f64; 36],
+)
     requires { ⌜ e0 ≡ maskOf (signIndex «corner_value») ⌝ }
-    ensures { λ r. ⌜ r ≡ grid 12 3 (edgeOn center «half_width» «corner_value») ⌝ }
+    ensures { λ _. ⌜ now (vertlist .exit) ≡ grid 12 3 (edgeOn center «half_width» «corner_value») ⌝ }
 {
     // in locals, so that the tables are laid out once and not for each edge
     let edge2node = EDGE2NODE;
     let hex_sign = HEX_SIGN;
-    let mut vertlist = [1.0 / 0.0; 36];
+    *vertlist = [1.0 / 0.0; 36];
     for i_edge in 0..12usize {
         let i0_node = edge2node[i_edge][0];
         let i1_node = edge2node[i_edge][1];
@@ -418,16 +465,32 @@ fn vert_list(center: [f64; 3], half_width: f64, corner_value: [f64; 8], e0: u32)
         vertlist[3 * i_edge + 1] = p[1];
         vertlist[3 * i_edge + 2] = p[2];
     }
-    vertlist
 }
 
-// `iso_surface` up to its triangles.
+// `iso_surface` up to its triangles: the positions go to `vertlist`, and `cubeindex` is returned.
+pub fn iso_edges_into(
+    center: [f64; 3],
+    half_width: f64,
+    corner_value: [f64; 8],
+    vertlist: &mut [f64; 36],
+) -> u32
+    ensures index { λ r. ⌜ r ≡ isoEdges center «half_width» «corner_value» .index ⌝ }
+    ensures byte { λ r. ⌜ r < 256 ⌝ }
+    ensures positions { λ _. ⌜ now (vertlist .exit) ≡ isoEdges center «half_width» «corner_value» .positions ⌝ }
+{
+    let cubeindex = cube_index(corner_value);
+    let e0 = cut_edges(cubeindex);
+    vert_list(center, half_width, corner_value, e0, vertlist);
+    cubeindex
+}
+
+// The same by value.
 pub fn iso_edges(center: [f64; 3], half_width: f64, corner_value: [f64; 8]) -> IsoEdges
     ensures { λ r. ⌜ r ≡ isoEdges center «half_width» «corner_value» ⌝ }
 {
-    let cubeindex = cube_index(corner_value);
+    let mut vertlist = [0.0; 36];
+    let cubeindex = iso_edges_into(center, half_width, corner_value, &mut vertlist);
     let e0 = iso_edge(cubeindex);
-    let vertlist = vert_list(center, half_width, corner_value, e0);
     IsoEdges {
         index: cubeindex,
         mask: e0,

@@ -317,10 +317,7 @@ pub extern "C" fn isn_hex_iso_edges(
 ) -> u32
     ensures { λ r. ⌜ (r ≡ 0) × (now (index .exit) ≡ isoEdges (now (center .entry)) «half_width» (now (values .entry)) .index) × (now (positions .exit) ≡ isoEdges (now (center .entry)) «half_width» (now (values .entry)) .positions) ⌝ }
 {
-    let found = hex_iso::iso_edges(*center, half_width, *values);
-    let held = found.positions;
-    *index = found.index;
-    *positions = held;
+    *index = hex_iso::iso_edges_into(*center, half_width, *values, positions);
     0
 }
 

@@ -38,11 +38,11 @@ by-the-mask center half-width value e0 e mask below =
     simp is-cut
 
 abbrev Inv-loop : tie.InvT-loop
-Inv-loop center half-width e0 value edge2node hex-sign vertlist₀ i₀ vertlist i =
+Inv-loop center half-width e0 vertlist₀ value edge2node hex-sign i₀ vertlist i =
     (i ≤ 12) × (vertlist ≡ fillRows (edgeOn center half-width value) 3 i vertlist₀)
 
 abbrev μ-loop : tie.MeasureT-loop
-μ-loop center half-width e0 value edge2node hex-sign vertlist₀ i₀ vertlist i = 12 - i
+μ-loop center half-width e0 vertlist₀ value edge2node hex-sign i₀ vertlist i = 12 - i
 
 loop-holds : tie.Need-loop-holds Inv-loop μ-loop
 unfolding fillRows
@@ -52,7 +52,7 @@ loop-again : tie.Need-loop-again Inv-loop μ-loop
 unfolding fillRow fillRows
 loop-again c =
     let head = c .before .before .before .before .before .before in
-    let start = head .before in
+    let start = head .before .before in
     let at = start .args in
     let row = c .vert .ensures ∙ by-the-mask (at .center) (at .half-width) (at .t3) (at .e0) (head .loop .i-edge) (start .pre) (search needs) in
     (search needs, simp (row, head .loop .inv .1, add-one))
