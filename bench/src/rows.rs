@@ -32,9 +32,13 @@ const INPUTS: usize = 64;
 const TOLERANCE: f64 = 1e-9;
 const DEGREE: usize = 2;
 
+/// From the start of a cache line, so that a short output lies in one.
+#[repr(align(64))]
+struct Aligned<T>(T);
+
 /// A side of a row: a function of an input, and a buffer that it may write to.
 struct Side<B, F> {
-    buffer: RefCell<B>,
+    buffer: RefCell<Aligned<B>>,
     call: F,
 }
 
@@ -92,13 +96,13 @@ fn row_of<I: 'static, A: 'static, B: 'static, C: 'static>(
     kept: (impl Fn(&A) + 'static, impl Fn(&u32) + 'static),
     agree: impl Fn(&A, &B, &u32, &C) -> bool + 'static,
 ) -> Row {
-    let theirs = Rc::new(Side { buffer: RefCell::new(theirs.0), call: theirs.1 });
-    let ours = Rc::new(Side { buffer: RefCell::new(ours.0), call: ours.1 });
+    let theirs = Rc::new(Side { buffer: RefCell::new(Aligned(theirs.0)), call: theirs.1 });
+    let ours = Rc::new(Side { buffer: RefCell::new(Aligned(ours.0)), call: ours.1 });
     let passes = (pass(inputs, &theirs, kept.0), pass(inputs, &ours, kept.1));
     let inputs = Rc::clone(inputs);
     let calls = inputs.len();
     let agree = move || {
-        let (one, other) = (&mut *theirs.buffer.borrow_mut(), &mut *ours.buffer.borrow_mut());
+        let (one, other) = (&mut theirs.buffer.borrow_mut().0, &mut ours.buffer.borrow_mut().0);
         for input in inputs.iter() {
             let (answer, number) = ((theirs.call)(input, one), (ours.call)(input, other));
             assert!(agree(&answer, one, &number, other), "{name}: the two sides do not agree");
@@ -117,7 +121,7 @@ fn pass<I: 'static, B: 'static, A: 'static>(
 ) -> Pass {
     let (inputs, side) = (Rc::clone(inputs), Rc::clone(side));
     Box::new(move || {
-        let buffer = &mut *side.buffer.borrow_mut();
+        let buffer = &mut side.buffer.borrow_mut().0;
         for input in inputs.iter() {
             let answer = (side.call)(black_box(input), buffer);
             kept(&answer);
