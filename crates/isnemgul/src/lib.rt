@@ -1,176 +1,32 @@
 // The C face: what a simulator links as libisnemgul.a (include/isnemgul.h). Each function takes its arguments apart, calls the Rattle face
 // and writes the answer. It returns 0 where it answered, and otherwise a refusal's number, and then no lent memory has changed: `Wrote`.
-use cell::Located;
-use cell::Measured;
 use cell::Point;
-use descendant::Descended;
-use hex_iso::IsoMask;
-use hex_iso::IsoPosition;
-use hxm::Reading;
-use mat3_col_major::Inverse;
-use probe::Checked;
-use probe::Verdict;
-use proposals::Judged;
 use proposals::Proposal;
-use refine::Refined;
 ghost use mathlib.Core.Path.{_≡_};
 ghost use lib.ListN.{length};
 ghost use Rattle.binary64.specs.Answer.{Wrote, left, numberOf};
-ghost use Rattle.mat3_col_major.specs.Mat3.{transposed, product, det, inverse, told as inverseTold};
-ghost use Rattle.cell.specs.Newton.{told};
-ghost use Rattle.cell.specs.Points.{told as volumeTold};
+ghost use Rattle.mat3_col_major.specs.Mat3.{transposed, product, det, inverse};
 ghost use Rattle.hex.specs.Shape as Hex;
 ghost use Rattle.hex_locate.specs.Locate.{located as hexLocated};
 ghost use Rattle.hex_gradient.specs.Gradient.{gradient, shapeGradient, weightedGradient};
 ghost use Rattle.hex_volume.specs.Volume.{volume as hexVolume};
-ghost use Rattle.hex_iso.specs.Cut.{isoMask, maskTold};
-ghost use Rattle.hex_iso.specs.Position.{isoPosition, isoEdges, positionTold};
+ghost use Rattle.hex_iso.specs.Cut.{isoMask};
+ghost use Rattle.hex_iso.specs.Position.{isoPosition, isoEdges};
 ghost use Rattle.hex_children.specs.Children.{children as hexChildren};
-ghost use Rattle.probe.specs.Check.{checked, locatedChecked, told as verdictTold, placeTold};
-ghost use Rattle.proposals.specs.Judgements.{judgements, zerosIn, told as judgedTold};
+ghost use Rattle.probe.specs.Check.{checked, locatedChecked};
+ghost use Rattle.proposals.specs.Judgements.{judgements, zerosIn};
 ghost use Rattle.prism.specs.Shape as Prism;
 ghost use Rattle.prism_locate.specs.Locate.{located as prismLocated};
 ghost use Rattle.prism_volume.specs.Volume.{volumeAnswer as prismVolume};
 ghost use Rattle.prism_children.specs.Children.{children as prismChildren};
-ghost use Rattle.descendant.specs.Place.{descended, told as descendedTold};
-ghost use Rattle.hxm.specs.Reads.{told as readingTold, counts as countsOf, coordsOf, cornersOf, meshInto};
-ghost use Rattle.refine.specs.Refine.{refined, childrenIn, told as refinedTold};
+ghost use Rattle.descendant.specs.Place.{descended};
+ghost use Rattle.hxm.specs.Reads.{counts as countsOf, coordsOf, cornersOf, meshInto};
+ghost use Rattle.refine.specs.Refine.{refined, childrenIn};
 
 fn wide(x: u32) -> usize
     ensures { λ r. ⌜ r ≡ x ⌝ }
 {
     x as usize
-}
-
-// Each `put_` writes what one kind of answer holds.
-fn put_inverse(found: Inverse, out: &mut [f64; 9]) -> u32
-    ensures { λ r. ⌜ Wrote (inverseTold found) r (now (out .entry)) (now (out .exit)) ⌝ }
-{
-    match found {
-        Inverse::Of(a, b, c, d, e, f, g, h, i) => {
-            *out = [a, b, c, d, e, f, g, h, i];
-            0
-        }
-        Inverse::ZeroDeterminant => 1,
-    }
-}
-
-fn put_located(found: Located, at: &mut [f64; 3]) -> u32
-    ensures { λ r. ⌜ Wrote (told found) r (now (at .entry)) (now (at .exit)) ⌝ }
-{
-    match found {
-        Located::Inside(r, s, t) => {
-            *at = [r, s, t];
-            0
-        }
-        Located::Flat => 1,
-        Located::Outside => 2,
-    }
-}
-
-fn put_measured(found: Measured, out: &mut f64) -> u32
-    ensures { λ r. ⌜ Wrote (volumeTold found) r (now (out .entry)) (now (out .exit)) ⌝ }
-{
-    match found {
-        Measured::Volume(x) => {
-            *out = x;
-            0
-        }
-        Measured::Refused(n) => n,
-    }
-}
-
-fn put_position(found: IsoPosition, out: &mut [f64; 3]) -> u32
-    ensures { λ r. ⌜ Wrote (positionTold found) r (now (out .entry)) (now (out .exit)) ⌝ }
-{
-    match found {
-        IsoPosition::At(x, y, z) => {
-            *out = [x, y, z];
-            0
-        }
-        IsoPosition::Refused(n) => n,
-    }
-}
-
-fn put_mask(found: IsoMask, out: &mut u32) -> u32
-    ensures { λ r. ⌜ Wrote (maskTold found) r (now (out .entry)) (now (out .exit)) ⌝ }
-{
-    match found {
-        IsoMask::Mask(m) => {
-            *out = m;
-            0
-        }
-        IsoMask::Refused(n) => n,
-    }
-}
-
-fn put_verdict(found: Verdict) -> u32
-    ensures { λ r. ⌜ r ≡ numberOf (verdictTold found) ⌝ }
-{
-    match found {
-        Verdict::Accepted => 0,
-        Verdict::Refused(n) => n,
-    }
-}
-
-fn put_checked(found: Checked, at: &mut [f64; 3]) -> u32
-    ensures { λ r. ⌜ Wrote (placeTold found) r (now (at .entry)) (now (at .exit)) ⌝ }
-{
-    match found {
-        Checked::Inside(r, s, t) => {
-            *at = [r, s, t];
-            0
-        }
-        Checked::Refused(n) => n,
-    }
-}
-
-fn put_judged(found: Judged, accepted: &mut u32) -> u32
-    ensures { λ r. ⌜ Wrote (judgedTold found) r (now (accepted .entry)) (now (accepted .exit)) ⌝ }
-{
-    match found {
-        Judged::Accepted(n) => {
-            *accepted = n;
-            0
-        }
-        Judged::Refused(n) => n,
-    }
-}
-
-fn put_descended(found: Descended, out: &mut [i32; 3]) -> u32
-    ensures { λ r. ⌜ Wrote (descendedTold found) r (now (out .entry)) (now (out .exit)) ⌝ }
-{
-    match found {
-        Descended::At(x, y, z) => {
-            *out = [x, y, z];
-            0
-        }
-        Descended::Refused(n) => n,
-    }
-}
-
-fn put_refined(found: Refined, next: &mut u32) -> u32
-    ensures { λ r. ⌜ Wrote (refinedTold found) r (now (next .entry)) (now (next .exit)) ⌝ }
-{
-    match found {
-        Refined::Next(free) => {
-            *next = free;
-            0
-        }
-        Refined::Refused(n) => n,
-    }
-}
-
-fn put_reading(found: Reading, counts: &mut [u32; 2]) -> u32
-    ensures { λ r. ⌜ Wrote (readingTold found) r (now (counts .entry)) (now (counts .exit)) ⌝ }
-{
-    match found {
-        Reading::Mesh(nodes, cells) => {
-            *counts = [nodes, cells];
-            0
-        }
-        Reading::Refused(n) => n,
-    }
 }
 
 #[no_mangle]
@@ -201,7 +57,7 @@ pub extern "C" fn isn_mat3_determinant(m: &[f64; 9], out: &mut f64) -> u32
 pub extern "C" fn isn_mat3_try_inverse(m: &[f64; 9], out: &mut [f64; 9]) -> u32
     ensures { λ r. ⌜ Wrote (inverse (now (m .entry))) r (now (out .entry)) (now (out .exit)) ⌝ }
 {
-    put_inverse(mat3_col_major::try_inverse(*m), out)
+    answers::put_inverse(mat3_col_major::try_inverse(*m), out)
 }
 
 #[no_mangle]
@@ -279,14 +135,14 @@ pub extern "C" fn isn_hex_grad_shapefunc(
 pub extern "C" fn isn_hex_volume(corners: &[f64; 24], points: &[f64], out: &mut f64) -> u32
     ensures { λ r. ⌜ Wrote (hexVolume (now (corners .entry)) (now (points .entry))) r (now (out .entry)) (now (out .exit)) ⌝ }
 {
-    put_measured(hex_volume::volume(*corners, points), out)
+    answers::put_measured(hex_volume::volume(*corners, points), out)
 }
 
 #[no_mangle]
 pub extern "C" fn isn_hex_parametric_coord_for_origin(corners: &[f64; 24], at: &mut [f64; 3]) -> u32
     ensures { λ r. ⌜ Wrote (hexLocated (now (corners .entry))) r (now (at .entry)) (now (at .exit)) ⌝ }
 {
-    put_located(hex_locate::newton(corners), at)
+    answers::put_located(hex_locate::newton(corners), at)
 }
 
 #[no_mangle]
@@ -301,7 +157,7 @@ pub extern "C" fn isn_hex_iso_position_on_edge(
 ) -> u32
     ensures { λ r. ⌜ Wrote (isoPosition (now (center .entry)) «half_width» i0 i1 val0 val1) r (now (out .entry)) (now (out .exit)) ⌝ }
 {
-    put_position(
+    answers::put_position(
         hex_iso::iso_position_on_edge(*center, half_width, wide(i0), wide(i1), val0, val1),
         out,
     )
@@ -325,7 +181,7 @@ pub extern "C" fn isn_hex_iso_edges(
 pub extern "C" fn isn_hex_iso_mask(index: u32, mask: &mut u32) -> u32
     ensures { λ r. ⌜ Wrote (isoMask index) r (now (mask .entry)) (now (mask .exit)) ⌝ }
 {
-    put_mask(hex_iso::iso_mask(index), mask)
+    answers::put_mask(hex_iso::iso_mask(index), mask)
 }
 
 #[no_mangle]
@@ -351,7 +207,7 @@ pub extern "C" fn isn_hex_check(corners: &[f64; 24], at: &[f64; 3], tolerance: f
         y: at[1],
         z: at[2],
     };
-    put_verdict(probe::judge(corners, place, tolerance))
+    answers::put_verdict(probe::judge(corners, place, tolerance))
 }
 
 #[no_mangle]
@@ -362,7 +218,7 @@ pub extern "C" fn isn_hex_locate_checked(
 ) -> u32
     ensures { λ r. ⌜ Wrote (locatedChecked (now (corners .entry)) tolerance) r (now (at .entry)) (now (at .exit)) ⌝ }
 {
-    put_checked(probe::locate_checked(*corners, tolerance), at)
+    answers::put_checked(probe::locate_checked(*corners, tolerance), at)
 }
 
 #[no_mangle]
@@ -375,7 +231,7 @@ pub extern "C" fn isn_hex_check_proposals(
     ensures answer { λ r. ⌜ Wrote (zerosIn (judgements (now (corners .entry)) (now (list .entry)) (length (now (out .entry))))) r (now (accepted .entry)) (now (accepted .exit)) ⌝ }
     ensures output { λ _. ⌜ now (out .exit) ≡ left (judgements (now (corners .entry)) (now (list .entry)) (length (now (out .entry)))) (now (out .entry)) ⌝ }
 {
-    put_judged(proposals::check_proposals(*corners, list, out), accepted)
+    answers::put_judged(proposals::check_proposals(*corners, list, out), accepted)
 }
 
 #[no_mangle]
@@ -411,7 +267,7 @@ pub extern "C" fn isn_prism_volume(
 ) -> u32
     ensures { λ r. ⌜ Wrote (prismVolume (now (corners .entry)) (now (line .entry)) (now (triangle .entry))) r (now (out .entry)) (now (out .exit)) ⌝ }
 {
-    put_measured(prism_volume::volume(*corners, line, triangle), out)
+    answers::put_measured(prism_volume::volume(*corners, line, triangle), out)
 }
 
 #[no_mangle]
@@ -421,7 +277,7 @@ pub extern "C" fn isn_prism_parametric_coord_for_origin(
 ) -> u32
     ensures { λ r. ⌜ Wrote (prismLocated (now (corners .entry))) r (now (at .entry)) (now (at .exit)) ⌝ }
 {
-    put_located(prism_locate::parametric_coord_for_origin(*corners), at)
+    answers::put_located(prism_locate::parametric_coord_for_origin(*corners), at)
 }
 
 #[no_mangle]
@@ -442,14 +298,14 @@ pub extern "C" fn isn_refine(n: u32, cells: &[u32], out: &mut [u32], next: &mut 
     ensures answer { λ r. ⌜ Wrote (refined n (now (cells .entry)) (length (now (out .entry)))) r (now (next .entry)) (now (next .exit)) ⌝ }
     ensures output { λ _. ⌜ now (out .exit) ≡ left (childrenIn (refined n (now (cells .entry)) (length (now (out .entry)))) n (now (cells .entry))) (now (out .entry)) ⌝ }
 {
-    put_refined(refine::refine(n, cells, out), next)
+    answers::put_refined(refine::refine(n, cells, out), next)
 }
 
 #[no_mangle]
 pub extern "C" fn isn_descendant(path: &[u32], corner: u32, out: &mut [i32; 3]) -> u32
     ensures { λ r. ⌜ Wrote (descended (now (path .entry)) corner) r (now (out .entry)) (now (out .exit)) ⌝ }
 {
-    put_descended(descendant::descendant(path, corner), out)
+    answers::put_descended(descendant::descendant(path, corner), out)
 }
 
 #[no_mangle]
@@ -463,5 +319,5 @@ pub extern "C" fn isn_hxm_read(
     ensures coords { λ _. ⌜ now (nodes .exit) ≡ left (coordsOf (meshInto (length (now (nodes .entry))) (length (now (cells .entry))) (now (bytes .entry)))) (now (nodes .entry)) ⌝ }
     ensures corners { λ _. ⌜ now (cells .exit) ≡ left (cornersOf (meshInto (length (now (nodes .entry))) (length (now (cells .entry))) (now (bytes .entry)))) (now (cells .entry)) ⌝ }
 {
-    put_reading(hxm::read(bytes, nodes, cells), counts)
+    answers::put_reading(hxm::read(bytes, nodes, cells), counts)
 }

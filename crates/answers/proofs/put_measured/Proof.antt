@@ -1,8 +1,8 @@
--- `isnemgul::put_measured` meets its contract, case by case. Assumes nothing.
+-- `answers::put_measured` meets its contract, case by case. Assumes nothing.
 use borrow.Author.Needs.{needs}
 use mathlib.Core.Path.{refl}
-use Rattle.isnemgul.proofs.put_measured.Statement.{statement}
-use Rattle.isnemgul.proofs.put_measured.Tie as tie
+use Rattle.answers.proofs.put_measured.Statement.{statement}
+use Rattle.answers.proofs.put_measured.Tie as tie
 
 returns : tie.Need-returns
 returns c = rw (c .before .found .given .1) (refl, refl)

@@ -1,10 +1,10 @@
--- `isnemgul::put_descended` meets its contract, case by case: a place is of numbers that fit. Assumes nothing.
+-- `answers::put_descended` meets its contract, case by case: a place is of numbers that fit. Assumes nothing.
 use borrow.Author.Needs.{needs}
 use mathlib.Core.Path.{refl}
 use mir.Facts.{toZ-ofZ}
 use mir.Syntax.{w32}
-use Rattle.isnemgul.proofs.put_descended.Statement.{statement}
-use Rattle.isnemgul.proofs.put_descended.Tie as tie
+use Rattle.answers.proofs.put_descended.Statement.{statement}
+use Rattle.answers.proofs.put_descended.Tie as tie
 
 returns : tie.Need-returns
 returns c =
