@@ -49,7 +49,7 @@ pub extern "C" fn isn_mat3_mult_vec(a: &[f64; 9], b: &[f64; 3], out: &mut [f64; 
 pub extern "C" fn isn_mat3_determinant(m: &[f64; 9], out: &mut f64) -> u32
     ensures { λ r. ⌜ (r ≡ 0) × (now (out .exit) ≡ det (now (m .entry))) ⌝ }
 {
-    *out = mat3_col_major::determinant(m);
+    *out = mat3_col_major::determinant(*m);
     0
 }
 

@@ -11,7 +11,7 @@ pub enum Inverse {
 pub fn try_inverse(b: [f64; 9]) -> Inverse
     ensures { λ r. ⌜ told r ≡ inverse b ⌝ }
 {
-    let det = determinant(&b);
+    let det = determinant(b);
     if det == 0.0 {
         return Inverse::ZeroDeterminant;
     }
@@ -53,7 +53,14 @@ pub fn transpose(m: [f64; 9]) -> [f64; 9]
     [m[0], m[3], m[6], m[1], m[4], m[7], m[2], m[5], m[8]]
 }
 
-pub fn determinant(b: &[f64; 9]) -> f64
+pub fn determinant(b: [f64; 9]) -> f64
+    ensures { λ r. ⌜ r ≡ det b ⌝ }
+{
+    determinant_at(&b)
+}
+
+// The same of a matrix that is lent: so the sums over points read it where it lies.
+pub fn determinant_at(b: &[f64; 9]) -> f64
     ensures { λ r. ⌜ r ≡ det (now (b .entry)) ⌝ }
 {
     b[0] * b[4] * b[8] + b[3] * b[7] * b[2] + b[6] * b[1] * b[5]

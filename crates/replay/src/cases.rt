@@ -31,7 +31,7 @@ fn mat3_mult_vec(w: &[u64; 192]) -> bool {
 fn mat3_determinant(w: &[u64; 192]) -> bool {
     let mut m = [0.0; 9];
     crate::read(w, 0, &mut m);
-    let r = [mat3_col_major::determinant(&m)];
+    let r = [mat3_col_major::determinant(m)];
     crate::agree(&r, w, 9)
 }
 
