@@ -3,58 +3,76 @@
 CASES ?= 20000
 SEED ?= 1
 ARCHIVE = target/staticlib/libisnemgul.a
+STRICT = -Wall -Wextra -pedantic -O2
+
+# The archive is for x86-64. On another machine tools/x86-64 makes and runs what links it.
+ifneq ($(shell uname -m),x86_64)
+VIA = tools/x86-64
+endif
 
 .PHONY: demo test compare second
 
+# `rt staticlib` alone would prove the rooms below one after another.
 $(ARCHIVE): crates.txt $(shell find crates -name '*.rt' -o -name '*.antt')
+	RT_JOBS=$${RT_JOBS:-4} rt check $$(sed -n 's/^isnemgul://p' crates.txt)
 	rt staticlib isnemgul
 
 demo: $(ARCHIVE)
 	mkdir -p target/demo
-	cc -std=c99 -Wall -Wextra -pedantic -O2 -Iinclude demo/demo.c $(ARCHIVE) -o target/demo/demo
-	target/demo/demo
+	$(VIA) cc -std=c99 $(STRICT) -Iinclude demo/demo.c $(ARCHIVE) -o target/demo/demo
+	$(VIA) target/demo/demo
 
 test:
 	.ci/run
 
-compare: $(ARCHIVE)
-	cargo run --release --offline --quiet --manifest-path oracle/compare/Cargo.toml -- --cases $(CASES) --seed $(SEED)
+# The carried functions against the original Rust, and the additions against an independent second program in Python: both write cases with their
+# answers, and the driver calls the archive and compares.
+DRIVE = target/oracle/drive
 
-# The additions against an independent second program in Python.
-second: $(ARCHIVE)
-	mkdir -p target/second
-	cc -std=c99 -Wall -Wextra -pedantic -O2 -Iinclude oracle/second/drive.c $(ARCHIVE) -o target/second/drive
-	python3 oracle/second/second.py --cases $(CASES) --seed $(SEED) | target/second/drive
+$(DRIVE): oracle/drive.c include/isnemgul.h $(ARCHIVE)
+	mkdir -p target/oracle
+	$(VIA) cc -std=c99 $(STRICT) -Iinclude oracle/drive.c $(ARCHIVE) -o $(DRIVE)
 
-STRICT = -Wall -Wextra -pedantic -O2
+compare: $(DRIVE)
+	cargo run --release --offline --quiet --manifest-path oracle/cases/Cargo.toml --bin stream -- --cases $(CASES) --seed $(SEED) | $(VIA) $(DRIVE)
+
+second: $(DRIVE)
+	python3 oracle/second/second.py --cases $(CASES) --seed $(SEED) | $(VIA) $(DRIVE)
+
 HEXKIDS = target/bin/hexkids
 
-.PHONY: examples rust bench stack sanitize
+.PHONY: examples rust bench stack sanitize native
+
+native:
+	@[ -z "$(VIA)" ] || { echo "make $(MAKECMDGOALS): on x86-64 only: in an emulator times mean nothing, and valgrind and the sanitizers do not run" >&2; exit 2; }
 
 # The C++ program, and the Fortran one where there is a compiler for it.
 examples: $(ARCHIVE)
 	mkdir -p target/demo
-	c++ -std=c++11 $(STRICT) -Iinclude demo/demo.cpp $(ARCHIVE) -o target/demo/demo-cpp
-	target/demo/demo-cpp
-	@if command -v gfortran >/dev/null; then set -ex; \
-	    gfortran -std=f2008 $(STRICT) -J target/demo demo/demo.f90 $(ARCHIVE) -o target/demo/demo-f90; \
-	    target/demo/demo-f90; \
-	else echo "demo/demo.f90 is skipped: there is no gfortran"; fi
+	$(VIA) c++ -std=c++11 $(STRICT) -Iinclude demo/demo.cpp $(ARCHIVE) -o target/demo/demo-cpp
+	$(VIA) target/demo/demo-cpp
+	@if $(VIA) gfortran --version >/dev/null 2>&1; then set -ex; \
+	    $(VIA) gfortran -std=f2008 $(STRICT) -J target/demo demo/demo.f90 $(ARCHIVE) -o target/demo/demo-f90; \
+	    $(VIA) target/demo/demo-f90; \
+	else echo "demo/demo.f90 is skipped: there is no gfortran for x86-64"; fi
 
+# The crate's tests; where there is no Rust for x86-64, only whether they compile.
 rust: $(ARCHIVE)
-	cargo test --offline --quiet --manifest-path bindings/rust/Cargo.toml
+	@if $(VIA) cargo --version >/dev/null; then set -x; $(VIA) cargo test --offline --quiet --manifest-path bindings/rust/Cargo.toml; \
+	else set -x; cargo check --tests --offline --quiet --manifest-path bindings/rust/Cargo.toml; fi
 
 # BENCH=--instructions counts instructions by valgrind; BENCH="--only check --rounds 2001" times some rows longer.
-bench: $(ARCHIVE)
+bench: native $(ARCHIVE)
 	cargo run --release --offline --quiet --manifest-path bench/Cargo.toml -- $(BENCH)
 
 # The stack that each entry and hexkids take.
 stack: $(ARCHIVE)
 	mkdir -p target/bench
-	cc -std=gnu99 $(STRICT) -Iinclude bench/stack.c $(ARCHIVE) -o target/bench/stack
-	target/bench/stack
-	@target/bench/stack --file >target/bench/full.hxm
-	@if [ -x $(HEXKIDS) ]; then bench/least-stack $(HEXKIDS) target/bench/full.hxm; \
+	$(VIA) cc -std=gnu99 $(STRICT) -Iinclude bench/stack.c $(ARCHIVE) -o target/bench/stack
+	$(VIA) target/bench/stack
+	@$(VIA) target/bench/stack --file >target/bench/full.hxm
+	@if [ -n "$(VIA)" ]; then echo "hexkids is skipped: the emulator has a stack of its own"; \
+	elif [ -x $(HEXKIDS) ]; then bench/least-stack $(HEXKIDS) target/bench/full.hxm; \
 	else echo "hexkids is skipped: rt check hexkids builds it"; fi
 
 # The C programs under the address and undefined-behaviour sanitizers. These see the programs and what they lend, not inside the archive: there valgrind
@@ -62,10 +80,11 @@ stack: $(ARCHIVE)
 VALGRIND = valgrind --quiet --error-exitcode=99
 SANITIZED = -g -O1 -Wall -Wextra -pedantic -fsanitize=address,undefined -fno-sanitize-recover=all -Iinclude
 
-sanitize: $(ARCHIVE)
+sanitize: native $(ARCHIVE)
 	mkdir -p target/sanitize target/bench
-	cc -std=c99 $(SANITIZED) oracle/second/drive.c $(ARCHIVE) -o target/sanitize/drive
+	cc -std=c99 $(SANITIZED) oracle/drive.c $(ARCHIVE) -o target/sanitize/drive
 	python3 oracle/second/second.py --cases $(CASES) --seed $(SEED) | target/sanitize/drive
+	cargo run --release --offline --quiet --manifest-path oracle/cases/Cargo.toml --bin stream -- --cases $(CASES) --seed $(SEED) | target/sanitize/drive
 	cc -std=c99 $(SANITIZED) demo/demo.c $(ARCHIVE) -o target/sanitize/demo
 	target/sanitize/demo >/dev/null
 	c++ -std=c++11 $(SANITIZED) demo/demo.cpp $(ARCHIVE) -o target/sanitize/demo-cpp

@@ -1,13 +1,11 @@
-/* Compares the archive with the second program, whose cases and answers come on standard input.
+/* Compares the archive with another program, whose cases and answers come on standard input: the original Rust's for the carried
+ * functions (cases/src/bin/stream.rs), the second program's for the additions (second/second.py).
  *
  * Each case is one call of a C function with every buffer between guards. What all memory has to be afterwards is built beside it:
- * inputs as they were, outputs as the answer has them or untouched, marks everywhere else. Then both are compared, byte by byte.
- * A case with an empty list is called twice, the second time with null pointers.
+ * inputs as they were, outputs as the answer has them or untouched, marks everywhere else. Then both are compared, byte by byte,
+ * with all NaNs as one value. A case with an empty list is called twice, the second time with null pointers.
  *
- *     drive [--partial]
- *
- * Exit status: 0, 1 when there is a difference (a function that the archive lacks is one, except with --partial), 2 when the
- * stream is broken.
+ * Exit status: 0, 1 when there is a difference, 2 when the stream is broken.
  */
 #include <stdarg.h>
 #include <stdio.h>
@@ -15,20 +13,6 @@
 #include <string.h>
 
 #include "isnemgul.h"
-
-/* Null where the archive lacks the function. These have to agree with the header's declarations. */
-#define MAY_LACK __attribute__((weak))
-uint32_t isn_hex_check(const double corners[24], const double at[3], double tolerance) MAY_LACK;
-uint32_t isn_hex_locate_checked(const double corners[24], double tolerance, double at[3]) MAY_LACK;
-uint32_t isn_hex_check_proposals(const double corners[24], const isn_proposal *list, size_t list_len, uint32_t *out, size_t out_len,
-                                 uint32_t accepted[1]) MAY_LACK;
-uint32_t isn_refine(uint32_t n, const uint32_t *cells, size_t cells_len, uint32_t *out, size_t out_len, uint32_t next[1]) MAY_LACK;
-uint32_t isn_descendant(const uint32_t *path, size_t path_len, uint32_t corner, int32_t out[3]) MAY_LACK;
-uint32_t isn_hxm_read(const uint8_t *bytes, size_t bytes_len, uint64_t *nodes, size_t nodes_len, uint32_t *cells, size_t cells_len,
-                      uint32_t counts[2]) MAY_LACK;
-
-/* A weak name alone does not take the archive's object in. */
-uint32_t (*const second_takes_the_archive)(const double m[9], double out[9]) = isn_mat3_transpose;
 
 static void broken(const char *why) {
     fprintf(stderr, "drive: the stream is broken: %s\n", why);
@@ -90,6 +74,21 @@ static double take_float(void) {
     return v;
 }
 
+/* A number of 32 bits in a word of 64. */
+static uint32_t take_number(void) {
+    uint64_t word = little(take(8), 8);
+    if (word > UINT32_MAX)
+        broken("a number has more than 32 bits");
+    return (uint32_t)word;
+}
+
+static void take_numbers(void *to, size_t count) {
+    for (size_t i = 0; i < count; i++) {
+        uint32_t v = take_number();
+        memcpy((unsigned char *)to + 4 * i, &v, 4);
+    }
+}
+
 static int read_all(unsigned char *to, size_t size) {
     return fread(to, 1, size, stdin) == size;
 }
@@ -103,6 +102,7 @@ struct buffer {
     size_t width, count;        /* of its elements */
     size_t start, whole, room;  /* guards and elements; what is allocated */
     unsigned char *is, *has_to; /* the memory, and what it has to be after the call */
+    int result;                 /* a carried function's output */
 };
 
 static struct buffer buffers[BUFFERS];
@@ -121,7 +121,7 @@ static void make_marks(void) {
 /* A buffer of marks, aligned for its elements. */
 static void *lend(const char *name, size_t width, size_t count) {
     struct buffer *b = &buffers[used++];
-    b->name = name, b->width = width, b->count = count;
+    b->name = name, b->width = width, b->count = count, b->result = 0;
     b->start = GUARD + width * (calls % (16 / width));
     b->whole = b->start + width * count + GUARD;
     if (b->room < b->whole) {
@@ -146,16 +146,42 @@ static void *has_to(size_t buffer) {
 
 /* ---- the counts of a function ---- */
 
-enum { FIRST = 23, LAST = 28, NUMBERS = 14, SHOWN = 3 };
+enum { FUNCTIONS = 28, NUMBERS = 14, SHOWN = 3 };
 enum { MUST_ACCEPT = 1, MUST_REFUSE = 2, EITHER = 3 };
 
 static struct function {
     const char *name;
-    int there;
     unsigned long cases, differences, contradictions, refused[NUMBERS], demands[4];
-} functions[LAST - FIRST + 1] = {
-    {.name = "isn_hex_check"}, {.name = "isn_hex_locate_checked"}, {.name = "isn_hex_check_proposals"},
-    {.name = "isn_refine"},    {.name = "isn_descendant"},         {.name = "isn_hxm_read"},
+} functions[FUNCTIONS + 1] = {
+    {.name = "the end"},
+    {.name = "isn_mat3_transpose"},
+    {.name = "isn_mat3_mult_vec"},
+    {.name = "isn_mat3_determinant"},
+    {.name = "isn_mat3_try_inverse"},
+    {.name = "isn_hex_shapefunc"},
+    {.name = "isn_hex_dndr"},
+    {.name = "isn_hex_dxdr"},
+    {.name = "isn_hex_grad_shapefunc_from_dndr"},
+    {.name = "isn_hex_dndx"},
+    {.name = "isn_hex_grad_shapefunc"},
+    {.name = "isn_hex_volume"},
+    {.name = "isn_hex_parametric_coord_for_origin"},
+    {.name = "isn_hex_iso_position_on_edge"},
+    {.name = "isn_hex_iso_edges"},
+    {.name = "isn_hex_iso_mask"},
+    {.name = "isn_hex_subdivide"},
+    {.name = "isn_prism_shapefunc"},
+    {.name = "isn_prism_dndr"},
+    {.name = "isn_prism_dxdr"},
+    {.name = "isn_prism_volume"},
+    {.name = "isn_prism_parametric_coord_for_origin"},
+    {.name = "isn_prism_subdivide"},
+    {.name = "isn_hex_check"},
+    {.name = "isn_hex_locate_checked"},
+    {.name = "isn_hex_check_proposals"},
+    {.name = "isn_refine"},
+    {.name = "isn_descendant"},
+    {.name = "isn_hxm_read"},
 };
 
 static void say(const struct function *f, const char *form, ...) {
@@ -202,7 +228,7 @@ static int compare(const struct function *f, uint32_t answered, uint32_t number)
     return differs;
 }
 
-/* ---- the calls: each reads its record, calls and compares; `null` gives empty lists as null pointers ---- */
+/* ---- the calls: each reads its record and calls; `null` gives empty lists as null pointers ---- */
 
 static int has_empty_list;
 
@@ -211,6 +237,185 @@ static void *list(void *p, size_t count, int null) {
         has_empty_list = 1;
     return null && count == 0 ? NULL : p;
 }
+
+/* ---- the carried functions: inputs and outputs in the order of the C arguments, each a word of 64 bits ---- */
+
+static double *floats(const char *name, size_t count) {
+    double *p = lend(name, 8, count);
+    take_words64(p, count);
+    return p;
+}
+
+static uint32_t *numbers(const char *name, size_t count) {
+    uint32_t *p = lend(name, 4, count);
+    take_numbers(p, count);
+    return p;
+}
+
+static void *result(const char *name, size_t width, size_t count) {
+    void *p = lend(name, width, count);
+    buffers[used - 1].result = 1;
+    return p;
+}
+
+static uint32_t call_hex_grad_shapefunc(int null) {
+    double *corners = floats("corners", 24);
+    size_t length = take_number();
+    double *points = floats("points", length);
+    uint32_t i1 = take_number(), i2 = take_number(), i3 = take_number();
+    double *dndx = result("dndx", 8, 24), *detwei = result("detwei", 8, 1);
+    settle();
+    return isn_hex_grad_shapefunc(corners, list(points, length, null), length, i1, i2, i3, dndx, detwei);
+}
+
+static uint32_t call_hex_volume(int null) {
+    double *corners = floats("corners", 24);
+    size_t length = take_number();
+    double *points = floats("points", length);
+    double *out = result("out", 8, 1);
+    settle();
+    return isn_hex_volume(corners, list(points, length, null), length, out);
+}
+
+static uint32_t call_prism_volume(int null) {
+    double *corners = floats("corners", 18), *line, *triangle;
+    size_t line_length, triangle_length;
+    double *out;
+    line_length = take_number(), line = floats("line", line_length);
+    triangle_length = take_number(), triangle = floats("triangle", triangle_length);
+    out = result("out", 8, 1);
+    settle();
+    return isn_prism_volume(corners, list(line, line_length, null), line_length, list(triangle, triangle_length, null),
+                            triangle_length, out);
+}
+
+static uint32_t call_hex_iso_position_on_edge(void) {
+    double *center = floats("center", 3);
+    double half_width = take_float(), val0, val1, *out;
+    uint32_t i0 = take_number(), i1 = take_number();
+    val0 = take_float(), val1 = take_float();
+    out = result("out", 8, 3);
+    settle();
+    return isn_hex_iso_position_on_edge(center, half_width, i0, i1, val0, val1, out);
+}
+
+static uint32_t call_hex_iso_edges(void) {
+    double *center = floats("center", 3), *values;
+    double half_width = take_float(), *positions;
+    uint32_t *index;
+    values = floats("values", 8);
+    index = result("index", 4, 1), positions = result("positions", 8, 36);
+    settle();
+    return isn_hex_iso_edges(center, half_width, values, index, positions);
+}
+
+static uint32_t call_hex_iso_mask(void) {
+    uint32_t index = take_number(), *mask = result("mask", 4, 1);
+    settle();
+    return isn_hex_iso_mask(index, mask);
+}
+
+static uint32_t call_hex_subdivide(void) {
+    uint32_t *corner = numbers("corner", 8), *edge = numbers("edge", 12), *quad = numbers("quad", 6);
+    uint32_t center = take_number(), *out = result("out", 4, 64);
+    settle();
+    return isn_hex_subdivide(corner, edge, quad, center, out);
+}
+
+static uint32_t call_prism_subdivide(void) {
+    uint32_t *corner = numbers("corner", 6), *edge = numbers("edge", 9), *quad = numbers("quad", 3);
+    uint32_t *out = result("out", 4, 48);
+    settle();
+    return isn_prism_subdivide(corner, edge, quad, out);
+}
+
+/* The names of a function's arguments do not matter where all are arrays of floats: inputs a and b, outputs x, y and z. */
+static uint32_t call_carried(int function, int null) {
+    double *a, *b, *x, *y, *z;
+    switch (function) {
+    case 1:
+        a = floats("m", 9), x = result("out", 8, 9);
+        return settle(), isn_mat3_transpose(a, x);
+    case 2:
+        a = floats("a", 9), b = floats("b", 3), x = result("out", 8, 3);
+        return settle(), isn_mat3_mult_vec(a, b, x);
+    case 3:
+        a = floats("m", 9), x = result("out", 8, 1);
+        return settle(), isn_mat3_determinant(a, x);
+    case 4:
+        a = floats("m", 9), x = result("out", 8, 9);
+        return settle(), isn_mat3_try_inverse(a, x);
+    case 5:
+        a = floats("pco", 3), x = result("out", 8, 8);
+        return settle(), isn_hex_shapefunc(a, x);
+    case 6:
+        a = floats("pco", 3), x = result("out", 8, 24);
+        return settle(), isn_hex_dndr(a, x);
+    case 7:
+        a = floats("corners", 24), b = floats("pco", 3), x = result("out", 8, 9);
+        return settle(), isn_hex_dxdr(a, b, x);
+    case 8:
+        a = floats("corners", 24), b = floats("dndr", 24), x = result("dndx", 8, 24), y = result("detjac", 8, 1);
+        return settle(), isn_hex_grad_shapefunc_from_dndr(a, b, x, y);
+    case 9:
+        a = floats("corners", 24), b = floats("pco", 3);
+        x = result("shape", 8, 8), y = result("dndx", 8, 24), z = result("detjac", 8, 1);
+        return settle(), isn_hex_dndx(a, b, x, y, z);
+    case 10:
+        return call_hex_grad_shapefunc(null);
+    case 11:
+        return call_hex_volume(null);
+    case 12:
+        a = floats("corners", 24), x = result("at", 8, 3);
+        return settle(), isn_hex_parametric_coord_for_origin(a, x);
+    case 13:
+        return call_hex_iso_position_on_edge();
+    case 14:
+        return call_hex_iso_edges();
+    case 15:
+        return call_hex_iso_mask();
+    case 16:
+        return call_hex_subdivide();
+    case 17:
+        a = floats("pco", 3), x = result("out", 8, 6);
+        return settle(), isn_prism_shapefunc(a, x);
+    case 18:
+        a = floats("pco", 3), x = result("out", 8, 18);
+        return settle(), isn_prism_dndr(a, x);
+    case 19:
+        a = floats("corners", 18), b = floats("pco", 3), x = result("out", 8, 9);
+        return settle(), isn_prism_dxdr(a, b, x);
+    case 20:
+        return call_prism_volume(null);
+    case 21:
+        a = floats("corners", 18), x = result("at", 8, 3);
+        return settle(), isn_prism_parametric_coord_for_origin(a, x);
+    default:
+        return call_prism_subdivide();
+    }
+}
+
+static int is_nan(uint64_t word) {
+    return word << 1 > 0xffe0000000000000u;
+}
+
+/* What the outputs have to be: the record's words, and any NaN for a NaN. */
+static void expect_results(void) {
+    for (size_t i = 0; i < used; i++) {
+        const struct buffer *b = &buffers[i];
+        if (b->result && b->width == 4)
+            take_numbers(has_to(i), b->count);
+        for (size_t k = 0; b->result && b->width == 8 && k < b->count; k++) {
+            uint64_t is, want = little(take(8), 8);
+            memcpy(&is, b->is + b->start + 8 * k, 8);
+            if (is_nan(is) && is_nan(want))
+                want = is;
+            memcpy(b->has_to + b->start + 8 * k, &want, 8);
+        }
+    }
+}
+
+/* ---- the additions ---- */
 
 static int call_check(const struct function *f, uint32_t number, uint32_t *answered) {
     double *corners = lend("corners", 8, 24), *place = lend("at", 8, 3), tolerance;
@@ -304,7 +509,7 @@ static int call_hxm_read(const struct function *f, uint32_t number, uint32_t *an
 }
 
 static int call(int function, uint32_t number, uint32_t *answered, int null) {
-    const struct function *f = &functions[function - FIRST];
+    const struct function *f = &functions[function];
     used = 0;
     calls++;
     switch (function) {
@@ -318,18 +523,21 @@ static int call(int function, uint32_t number, uint32_t *answered, int null) {
         return call_refine(f, number, answered, null);
     case 27:
         return call_descendant(f, number, answered, null);
-    default:
+    case 28:
         return call_hxm_read(f, number, answered, null);
+    default:
+        *answered = call_carried(function, null);
+        if (number == 0)
+            expect_results();
+        return compare(f, *answered, number);
     }
 }
 
 /* One case: number is the expected answer, demand what demand 3 says of it. */
 static void run(int function, uint32_t number, int demand, size_t length) {
-    struct function *f = &functions[function - FIRST];
+    struct function *f = &functions[function];
     uint32_t answered = 0;
     int differs;
-    if (!f->there)
-        return;
     at = record, end = record + length;
     has_empty_list = 0;
     differs = call(function, number, &answered, 0);
@@ -350,22 +558,19 @@ static void run(int function, uint32_t number, int demand, size_t length) {
     f->cases++;
 }
 
-static unsigned long report(int partial) {
+static unsigned long report(void) {
     unsigned long cases = 0, differences = 0;
-    for (int i = 0; i <= LAST - FIRST; i++) {
+    for (int i = 1; i <= FUNCTIONS; i++) {
         const struct function *f = &functions[i];
-        if (!f->there) {
-            printf("%-24s not in the archive\n", f->name);
-            differences += !partial;
+        if (f->cases == 0)
             continue;
-        }
-        printf("%-24s %8lu cases, answered %lu, refused", f->name, f->cases, f->refused[0]);
+        printf("%-38s %8lu cases, answered %lu, refused", f->name, f->cases, f->refused[0]);
         for (int number = 1; number < NUMBERS; number++)
             if (f->refused[number] != 0)
                 printf(" %d: %lu", number, f->refused[number]);
         printf(", %lu differences\n", f->differences);
         if (f->demands[MUST_ACCEPT] + f->demands[MUST_REFUSE] + f->demands[EITHER] != 0)
-            printf("%-24s demand 3: must accept %lu, must refuse %lu, either %lu, %lu contradictions\n", "", f->demands[MUST_ACCEPT],
+            printf("%-38s demand 3: must accept %lu, must refuse %lu, either %lu, %lu contradictions\n", "", f->demands[MUST_ACCEPT],
                    f->demands[MUST_REFUSE], f->demands[EITHER], f->contradictions);
         cases += f->cases, differences += f->differences;
     }
@@ -373,23 +578,12 @@ static unsigned long report(int partial) {
     return differences;
 }
 
-int main(int argc, char **argv) {
-    int partial = argc == 2 && strcmp(argv[1], "--partial") == 0;
+int main(void) {
     unsigned char head[8];
     uint64_t records = 0;
-    if (argc > 2 || (argc == 2 && !partial)) {
-        fprintf(stderr, "drive [--partial], with the second program's stream on standard input\n");
-        return 2;
-    }
-    functions[0].there = isn_hex_check != NULL;
-    functions[1].there = isn_hex_locate_checked != NULL;
-    functions[2].there = isn_hex_check_proposals != NULL;
-    functions[3].there = isn_refine != NULL;
-    functions[4].there = isn_descendant != NULL;
-    functions[5].there = isn_hxm_read != NULL;
     make_marks();
     if (!read_all(head, 8) || memcmp(head, "ISN2ND1\n", 8) != 0)
-        broken("not the second program's");
+        broken("it does not begin as one");
     for (;;) {
         size_t length;
         if (!read_all(head, 8))
@@ -404,12 +598,14 @@ int main(int argc, char **argv) {
             broken("it ends early");
         if (head[0] == 0)
             break;
-        if (head[0] < FIRST || head[0] > LAST || head[1] >= NUMBERS || head[2] > EITHER)
+        if (head[0] > FUNCTIONS || head[1] >= NUMBERS || head[2] > EITHER)
             broken("an unknown record");
         run(head[0], head[1], head[2], length);
         records++;
     }
     if (little(record, 8) != records || getchar() != EOF)
         broken("the number of records is another");
-    return report(partial) != 0;
+    if (records == 0)
+        broken("there is no case in it");
+    return report() != 0;
 }
