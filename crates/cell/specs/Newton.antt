@@ -6,7 +6,8 @@ use lib.Ieee.{Float}
 use Rattle.numbers.specs.Rule.{tabulate}
 use Rattle.binary64.specs.Binary64.{_⊖_, _!_}
 use Rattle.binary64.specs.Answer.{Answer, answered, refused, andThen, LosesNothing}
-use Rattle.mat3_col_major.specs.Mat3.{transposed, product, inverse}
+use Rattle.mat3_col_major.specs.Mat3.{transposed, product}
+use Rattle.mat3_inverse.specs.Inverse.{inverse}
 use Rattle.cell.specs.declared.Point.{Point}
 use Rattle.cell.specs.declared.Step.{Step}
 use Rattle.cell.specs.declared.Step.the-variants.{Next, Stuck}

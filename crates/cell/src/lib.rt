@@ -1,5 +1,5 @@
 // What the two cells share: a point, the answers of a locator and of a volume, and one Newton step.
-use mat3_col_major::Inverse;
+use mat3_inverse::Inverse;
 ghost use mathlib.Core.Path.{_≡_};
 ghost use Rattle.cell.specs.Newton.{coords, lessBy, stepFrom, stepTold};
 
@@ -45,7 +45,7 @@ pub fn newton_step(at: Point, image: [f64; 3], jac: [f64; 9]) -> Step
     ensures { λ r. ⌜ stepTold r ≡ stepFrom (coords at) image jac ⌝ }
 {
     let jac_col = mat3_col_major::transpose(jac);
-    match mat3_col_major::try_inverse(jac_col) {
+    match mat3_inverse::try_inverse(jac_col) {
         Inverse::Of(a, b, c, d, e, f, g, h, i) => Step::Next(moved(
             at,
             mat3_col_major::mult_vec([a, b, c, d, e, f, g, h, i], image),

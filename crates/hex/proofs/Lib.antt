@@ -1,2 +1,1 @@
 pub mod Cube
-pub mod Shape

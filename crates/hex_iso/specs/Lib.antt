@@ -1,2 +1,1 @@
-pub mod Cut
-pub mod Position
+pub mod Edges

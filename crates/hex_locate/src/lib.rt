@@ -10,8 +10,8 @@ fn step_from(p: [f64; 24], at: Point) -> Step
     ensures { λ r. ⌜ stepTold r ≡ step p (coords at) ⌝ }
 {
     let pco = [at.x, at.y, at.z];
-    let pos = hex::newton_image(p, pco);
-    let jac = hex::newton_jacobian(p, pco);
+    let pos = hex_image::newton_image(p, pco);
+    let jac = hex_image::newton_jacobian(p, pco);
     cell::newton_step(at, pos, jac)
 }
 

@@ -8,7 +8,7 @@ use Rattle.binary64.specs.Binary64.{_⊕_, _⊗_, f0}
 use Rattle.binary64.specs.Answer.{Answer, answered, refused}
 use Rattle.mat3_col_major.specs.Mat3.{det}
 use Rattle.cell.specs.Points.{pointCount, notWhole, notOneTo16, place, weight}
-use Rattle.hex.specs.Shape.{jacobianAt}
+use Rattle.hex_image.specs.Image.{jacobianAt}
 
 -- what three points add: the determinant of the Jacobian, handed over row by row and not transposed, times the product of their weights
 unfoldable pub termAt : List Float → List Float → ℕ → ℕ → ℕ → Float

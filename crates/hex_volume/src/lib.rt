@@ -14,7 +14,7 @@ fn term(p: [f64; 24], quadrature: &[f64], ir0: usize, ir1: usize, ir2: usize) ->
     let r1 = quadrature[2 * ir1];
     let r2 = quadrature[2 * ir2];
     let w = quadrature[2 * ir0 + 1] * quadrature[2 * ir1 + 1] * quadrature[2 * ir2 + 1];
-    let dxdr = hex::dxdr(p, [r0, r1, r2]);
+    let dxdr = hex_image::dxdr(p, [r0, r1, r2]);
     let detjac = mat3_col_major::determinant_at(&dxdr);
     detjac * w
 }

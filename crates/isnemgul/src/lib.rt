@@ -5,17 +5,22 @@ use proposals::Proposal;
 ghost use mathlib.Core.Path.{_≡_};
 ghost use lib.ListN.{length};
 ghost use Rattle.binary64.specs.Answer.{Wrote, left, numberOf};
-ghost use Rattle.mat3_col_major.specs.Mat3.{transposed, product, det, inverse};
-ghost use Rattle.hex.specs.Shape as Hex;
+ghost use Rattle.mat3_col_major.specs.Mat3.{transposed, product, det};
+ghost use Rattle.mat3_inverse.specs.Inverse.{inverse};
+ghost use Rattle.hex_shape.specs.Shape as Hex;
+ghost use Rattle.hex_image.specs.Image as HexImage;
 ghost use Rattle.hex_locate.specs.Locate.{located as hexLocated};
-ghost use Rattle.hex_gradient.specs.Gradient.{gradient, shapeGradient, weightedGradient};
+ghost use Rattle.hex_gradient.specs.Gradient.{gradient, shapeGradient};
+ghost use Rattle.hex_weighted_gradient.specs.Weighted.{weightedGradient};
 ghost use Rattle.hex_volume.specs.Volume.{volume as hexVolume};
-ghost use Rattle.hex_iso.specs.Cut.{isoMask};
-ghost use Rattle.hex_iso.specs.Position.{isoPosition, isoEdges};
+ghost use Rattle.hex_iso_mask.specs.Cut.{isoMask};
+ghost use Rattle.hex_iso_position.specs.Position.{isoPosition};
+ghost use Rattle.hex_iso.specs.Edges.{isoEdges};
 ghost use Rattle.hex_children.specs.Children.{children as hexChildren};
 ghost use Rattle.probe.specs.Check.{checked, locatedChecked};
 ghost use Rattle.proposals.specs.Judgements.{judgements, zerosIn};
-ghost use Rattle.prism.specs.Shape as Prism;
+ghost use Rattle.prism_shape.specs.Shape as Prism;
+ghost use Rattle.prism_image.specs.Image as PrismImage;
 ghost use Rattle.prism_locate.specs.Locate.{located as prismLocated};
 ghost use Rattle.prism_volume.specs.Volume.{volumeAnswer as prismVolume};
 ghost use Rattle.prism_children.specs.Children.{children as prismChildren};
@@ -57,14 +62,14 @@ pub extern "C" fn isn_mat3_determinant(m: &[f64; 9], out: &mut f64) -> u32
 pub extern "C" fn isn_mat3_try_inverse(m: &[f64; 9], out: &mut [f64; 9]) -> u32
     ensures { λ r. ⌜ Wrote (inverse (now (m .entry))) r (now (out .entry)) (now (out .exit)) ⌝ }
 {
-    answers::put_inverse(mat3_col_major::try_inverse(*m), out)
+    answers::put_inverse(mat3_inverse::try_inverse(*m), out)
 }
 
 #[no_mangle]
 pub extern "C" fn isn_hex_shapefunc(pco: &[f64; 3], out: &mut [f64; 8]) -> u32
     ensures { λ r. ⌜ (r ≡ 0) × (now (out .exit) ≡ Hex.shape (now (pco .entry))) ⌝ }
 {
-    *out = hex::shapefunc(*pco);
+    *out = hex_shape::shapefunc(*pco);
     0
 }
 
@@ -72,15 +77,15 @@ pub extern "C" fn isn_hex_shapefunc(pco: &[f64; 3], out: &mut [f64; 8]) -> u32
 pub extern "C" fn isn_hex_dndr(pco: &[f64; 3], out: &mut [f64; 24]) -> u32
     ensures { λ r. ⌜ (r ≡ 0) × (now (out .exit) ≡ Hex.slopes (now (pco .entry))) ⌝ }
 {
-    *out = hex::dndr(*pco);
+    *out = hex_shape::dndr(*pco);
     0
 }
 
 #[no_mangle]
 pub extern "C" fn isn_hex_dxdr(corners: &[f64; 24], pco: &[f64; 3], out: &mut [f64; 9]) -> u32
-    ensures { λ r. ⌜ (r ≡ 0) × (now (out .exit) ≡ Hex.jacobianAt (now (corners .entry)) (now (pco .entry))) ⌝ }
+    ensures { λ r. ⌜ (r ≡ 0) × (now (out .exit) ≡ HexImage.jacobianAt (now (corners .entry)) (now (pco .entry))) ⌝ }
 {
-    hex::dxdr_into(corners, *pco, out);
+    hex_image::dxdr_into(corners, *pco, out);
     0
 }
 
@@ -128,7 +133,15 @@ pub extern "C" fn isn_hex_grad_shapefunc(
 ) -> u32
     ensures { λ r. ⌜ Wrote (weightedGradient (now (corners .entry)) (now (points .entry)) i1 i2 i3) r (now (dndx .entry), now (detwei .entry)) (now (dndx .exit), now (detwei .exit)) ⌝ }
 {
-    hex_gradient::weighted_gradient(corners, points, wide(i1), wide(i2), wide(i3), dndx, detwei)
+    hex_weighted_gradient::weighted_gradient(
+        corners,
+        points,
+        wide(i1),
+        wide(i2),
+        wide(i3),
+        dndx,
+        detwei,
+    )
 }
 
 #[no_mangle]
@@ -158,7 +171,7 @@ pub extern "C" fn isn_hex_iso_position_on_edge(
     ensures { λ r. ⌜ Wrote (isoPosition (now (center .entry)) «half_width» i0 i1 val0 val1) r (now (out .entry)) (now (out .exit)) ⌝ }
 {
     answers::put_position(
-        hex_iso::iso_position_on_edge(*center, half_width, wide(i0), wide(i1), val0, val1),
+        hex_iso_position::iso_position_on_edge(*center, half_width, wide(i0), wide(i1), val0, val1),
         out,
     )
 }
@@ -181,7 +194,7 @@ pub extern "C" fn isn_hex_iso_edges(
 pub extern "C" fn isn_hex_iso_mask(index: u32, mask: &mut u32) -> u32
     ensures { λ r. ⌜ Wrote (isoMask index) r (now (mask .entry)) (now (mask .exit)) ⌝ }
 {
-    answers::put_mask(hex_iso::iso_mask(index), mask)
+    answers::put_mask(hex_iso_mask::iso_mask(index), mask)
 }
 
 #[no_mangle]
@@ -238,7 +251,7 @@ pub extern "C" fn isn_hex_check_proposals(
 pub extern "C" fn isn_prism_shapefunc(pco: &[f64; 3], out: &mut [f64; 6]) -> u32
     ensures { λ r. ⌜ (r ≡ 0) × (now (out .exit) ≡ Prism.shape (now (pco .entry))) ⌝ }
 {
-    *out = prism::shapefunc(*pco);
+    *out = prism_shape::shapefunc(*pco);
     0
 }
 
@@ -246,15 +259,15 @@ pub extern "C" fn isn_prism_shapefunc(pco: &[f64; 3], out: &mut [f64; 6]) -> u32
 pub extern "C" fn isn_prism_dndr(pco: &[f64; 3], out: &mut [f64; 18]) -> u32
     ensures { λ r. ⌜ (r ≡ 0) × (now (out .exit) ≡ Prism.slopes (now (pco .entry))) ⌝ }
 {
-    *out = prism::dndr(*pco);
+    *out = prism_shape::dndr(*pco);
     0
 }
 
 #[no_mangle]
 pub extern "C" fn isn_prism_dxdr(corners: &[f64; 18], pco: &[f64; 3], out: &mut [f64; 9]) -> u32
-    ensures { λ r. ⌜ (r ≡ 0) × (now (out .exit) ≡ Prism.jacobianAt (now (corners .entry)) (now (pco .entry))) ⌝ }
+    ensures { λ r. ⌜ (r ≡ 0) × (now (out .exit) ≡ PrismImage.jacobianAt (now (corners .entry)) (now (pco .entry))) ⌝ }
 {
-    prism::dxdr_into(corners, *pco, out);
+    prism_image::dxdr_into(corners, *pco, out);
     0
 }
 

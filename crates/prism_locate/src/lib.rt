@@ -2,7 +2,7 @@
 use cell::Located;
 use cell::Point;
 use cell::Step;
-use mat3_col_major::Inverse;
+use mat3_inverse::Inverse;
 ghost use mathlib.Core.Path.{_≡_};
 ghost use mathlib.Core.List.{[], _∷_};
 ghost use Rattle.cell.specs.Newton.{coords, lessBy, stepFrom, stepTold, told, verdict};
@@ -23,7 +23,7 @@ fn newton_step(at: Point, image: [f64; 3], jac: [f64; 9]) -> Step
     ensures { λ r. ⌜ stepTold r ≡ stepFrom (coords at) image jac ⌝ }
 {
     let jac_col = mat3_col_major::transpose(jac);
-    match mat3_col_major::try_inverse(jac_col) {
+    match mat3_inverse::try_inverse(jac_col) {
         Inverse::Of(a, b, c, d, e, f, g, h, i) => Step::Next(moved(
             at,
             mat3_col_major::mult_vec([a, b, c, d, e, f, g, h, i], image),
@@ -36,8 +36,8 @@ fn step_from(p: [f64; 18], at: Point) -> Step
     ensures { λ r. ⌜ stepTold r ≡ step p (coords at) ⌝ }
 {
     let pco = [at.x, at.y, at.z];
-    let pos = prism::newton_image(p, pco);
-    let jac = prism::newton_jacobian(p, pco);
+    let pos = prism_image::newton_image(p, pco);
+    let jac = prism_image::newton_jacobian(p, pco);
     newton_step(at, pos, jac)
 }
 

@@ -9,7 +9,7 @@ use Rattle.binary64.specs.Binary64.{_⊕_, _⊗_, _⊘_, _!_, f0, f1, f2}
 use Rattle.binary64.specs.Answer.{Answer, answered, refused}
 use Rattle.mat3_col_major.specs.Mat3.{det}
 use Rattle.cell.specs.Points.{pointCount, notWhole, notOneTo16, place, weight}
-use Rattle.prism.specs.Shape.{jacobianAt}
+use Rattle.prism_image.specs.Image.{jacobianAt}
 
 -- one half and one quarter, worked out as the source does
 abbrev pub half : Float

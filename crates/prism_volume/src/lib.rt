@@ -19,7 +19,7 @@ fn term(p: [f64; 18], quad_l: &[f64], quad_t: &[f64], ir_l: usize, ir_t: usize) 
         (quad_l[2 * ir_l] + one) * half,
     ];
     let w = quad_l[2 * ir_l + 1] * quad_t[3 * ir_t + 2];
-    let dxdr = prism::dxdr(p, pco);
+    let dxdr = prism_image::dxdr(p, pco);
     let detjac = mat3_col_major::determinant_at(&dxdr);
     detjac * w
 }

@@ -12,7 +12,7 @@ use Rattle.binary64.specs.Answer.{Answer, answered, andThen}
 use Rattle.cell.specs.Image.{corner}
 use Rattle.cell.specs.Newton.{coords}
 use Rattle.cell.specs.declared.Point.{Point}
-use Rattle.hex.specs.Shape.{imageAt}
+use Rattle.hex_image.specs.Image.{imageAt}
 use Rattle.hex_locate.specs.Locate.{within, inside, located}
 use Rattle.probe.specs.Check.{goodCorner, goodCorners, goodTolerance, nearOn, near, checked, keptIfNear, locatedChecked, told, placeTold}
 use Rattle.probe.specs.Exact.{exactImage, whole, margin, AtMostTPlusE, AtMostTMinusE}

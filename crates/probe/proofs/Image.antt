@@ -14,7 +14,8 @@ use Rattle.binary64.specs.Binary64.{_!_}
 use Rattle.binary64.specs.Exact.{one, size}
 use Rattle.cell.specs.Image.{corner, imageOn}
 use Rattle.hex.specs.Cube.{upper}
-use Rattle.hex.specs.Shape.{shape, shapeAt, imageAt}
+use Rattle.hex_shape.specs.Shape.{shape, shapeAt}
+use Rattle.hex_image.specs.Image.{imageAt}
 use Rattle.probe.specs.Exact.{exactWeight, exactImage, whole, largest, roundings, margin}
 use Rattle.probe.proofs.Shape.{Coordinate, sideUnits, sideBound, little, scale, sides-both, bound-between, shape-sized}
 use Rattle.probe.proofs.Weights.{weight, weight-exact, corner-sum, Small}

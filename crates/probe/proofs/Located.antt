@@ -9,9 +9,10 @@ use lib.Ieee.Fits.{sub-fits}
 use Rattle.numbers.proofs.Tabulate.{tabulate-at}
 use Rattle.binary64.specs.Binary64.{_!_, _⊖_}
 use Rattle.binary64.specs.Answer.{answered, refused}
-use Rattle.mat3_col_major.specs.Mat3.{transposed, product, inverse}
+use Rattle.mat3_col_major.specs.Mat3.{transposed, product}
+use Rattle.mat3_inverse.specs.Inverse.{inverse}
 use Rattle.cell.specs.Newton.{lessBy, stepFrom, after, verdict}
-use Rattle.hex.specs.Shape.{imageAt, jacobianAt}
+use Rattle.hex_image.specs.Image.{imageAt, jacobianAt}
 use Rattle.hex_locate.specs.Locate.{step, start, inside, located}
 use Rattle.probe.proofs.Answers.{Answered, then-answered, answered-same, never}
 

@@ -12,7 +12,7 @@ use lib.Ieee.{Float, binary64, unlike, add, sub, mul, div, neg, ofBits, fits}
 use lib.Ieee.Fits.{add-fits, sub-fits}
 use Rattle.binary64.specs.Binary64.{_⊗_}
 use Rattle.binary64.specs.Exact.{one, size, isNegative}
-use Rattle.hex.specs.Shape.{one8, side}
+use Rattle.hex_shape.specs.Shape.{one8, side}
 use Rattle.probe.specs.Exact.{exactSide, roundings}
 use Rattle.rounding.proofs.Units.{Held, neg-held, neg-size, neg-sign}
 use Rattle.rounding.proofs.Round.{Rounded}

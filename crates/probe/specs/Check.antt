@@ -6,7 +6,7 @@ use lib.Ieee.{Float, binary64, ofBits, neg, le, lt}
 use Rattle.numbers.specs.Rule.{all}
 use Rattle.binary64.specs.Binary64.{_!_, f0, infinity, isZero}
 use Rattle.binary64.specs.Answer.{Answer, answered, refused, andThen, LosesNothing}
-use Rattle.hex.specs.Shape.{imageAt}
+use Rattle.hex_image.specs.Image.{imageAt}
 use Rattle.hex_locate.specs.Locate.{inside, located}
 use Rattle.probe.specs.declared.Verdict.{Verdict}
 use Rattle.probe.specs.declared.Verdict.the-variants as Verdict

@@ -71,7 +71,7 @@ fn near_on(x: f64, t: f64) -> bool
 fn near(p: &[f64; 24], pco: [f64; 3], t: f64) -> bool
     ensures { λ r. ⌜ r ≡ near (now (p .entry)) pco t ⌝ }
 {
-    let x = hex::image(*p, pco);
+    let x = hex_image::image(*p, pco);
     near_on(x[0], t) & near_on(x[1], t) & near_on(x[2], t)
 }
 

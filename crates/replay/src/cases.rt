@@ -3,11 +3,11 @@
 use cell::Located;
 use cell::Measured;
 use cell::Point;
-use hex_gradient::Outcome;
-use hex_gradient::WeightedGradient;
-use hex_iso::IsoMask;
-use hex_iso::IsoPosition;
-use mat3_col_major::Inverse;
+use hex_iso_mask::IsoMask;
+use hex_iso_position::IsoPosition;
+use hex_weighted_gradient::Outcome;
+use hex_weighted_gradient::WeightedGradient;
+use mat3_inverse::Inverse;
 use probe::Checked;
 use probe::Verdict;
 ghost use Prim.Native.Nat.{_≤_};
@@ -38,7 +38,7 @@ fn mat3_determinant(w: &[u64; 192]) -> bool {
 fn mat3_try_inverse(w: &[u64; 192], outcome: u32) -> bool {
     let mut m = [0.0; 9];
     crate::read(w, 0, &mut m);
-    match mat3_col_major::try_inverse(m) {
+    match mat3_inverse::try_inverse(m) {
         Inverse::Of(a, b, c, d, e, f, g, h, i) => {
             let r = [a, b, c, d, e, f, g, h, i];
             crate::agree(&r, w, 9) & (outcome == 0)
@@ -50,14 +50,14 @@ fn mat3_try_inverse(w: &[u64; 192], outcome: u32) -> bool {
 fn hex_shapefunc(w: &[u64; 192]) -> bool {
     let mut pco = [0.0; 3];
     crate::read(w, 0, &mut pco);
-    let r = hex::shapefunc(pco);
+    let r = hex_shape::shapefunc(pco);
     crate::agree(&r, w, 3)
 }
 
 fn hex_dndr(w: &[u64; 192]) -> bool {
     let mut pco = [0.0; 3];
     crate::read(w, 0, &mut pco);
-    let r = hex::dndr(pco);
+    let r = hex_shape::dndr(pco);
     crate::agree(&r, w, 3)
 }
 
@@ -66,7 +66,7 @@ fn hex_dxdr(w: &[u64; 192]) -> bool {
     let mut pco = [0.0; 3];
     crate::read(w, 0, &mut p);
     crate::read(w, 24, &mut pco);
-    let r = hex::dxdr(p, pco);
+    let r = hex_image::dxdr(p, pco);
     crate::agree(&r, w, 27)
 }
 
@@ -106,7 +106,7 @@ fn hex_grad_at(
 ) -> WeightedGradient
     requires { ⌜ n ≤ 72 ⌝ }
 {
-    hex_gradient::grad_shapefunc(
+    hex_weighted_gradient::grad_shapefunc(
         p,
         crate::first(&points, n),
         i1 as usize,
@@ -194,7 +194,7 @@ fn hex_iso_position_on_edge(w: &[u64; 192], outcome: u32) -> bool {
     let i1 = crate::number_at(w, 5) as usize;
     let val0 = crate::float_at(w, 6);
     let val1 = crate::float_at(w, 7);
-    match hex_iso::iso_position_on_edge(center, half_width, i0, i1, val0, val1) {
+    match hex_iso_position::iso_position_on_edge(center, half_width, i0, i1, val0, val1) {
         IsoPosition::At(x, y, z) => {
             let r = [x, y, z];
             crate::agree(&r, w, 8) & (outcome == 0)
@@ -215,7 +215,7 @@ fn hex_iso_edges(w: &[u64; 192]) -> bool {
 }
 
 fn hex_iso_mask(w: &[u64; 192], outcome: u32) -> bool {
-    match hex_iso::iso_mask(crate::number_at(w, 0)) {
+    match hex_iso_mask::iso_mask(crate::number_at(w, 0)) {
         IsoMask::Mask(m) => {
             let r = [m];
             crate::agree_numbers(&r, w, 1) & (outcome == 0)
@@ -238,14 +238,14 @@ fn hex_subdivide(w: &[u64; 192]) -> bool {
 fn prism_shapefunc(w: &[u64; 192]) -> bool {
     let mut pco = [0.0; 3];
     crate::read(w, 0, &mut pco);
-    let r = prism::shapefunc(pco);
+    let r = prism_shape::shapefunc(pco);
     crate::agree(&r, w, 3)
 }
 
 fn prism_dndr(w: &[u64; 192]) -> bool {
     let mut pco = [0.0; 3];
     crate::read(w, 0, &mut pco);
-    let r = prism::dndr(pco);
+    let r = prism_shape::dndr(pco);
     crate::agree(&r, w, 3)
 }
 
@@ -254,7 +254,7 @@ fn prism_dxdr(w: &[u64; 192]) -> bool {
     let mut pco = [0.0; 3];
     crate::read(w, 0, &mut p);
     crate::read(w, 18, &mut pco);
-    let r = prism::dxdr(p, pco);
+    let r = prism_image::dxdr(p, pco);
     crate::agree(&r, w, 21)
 }
 

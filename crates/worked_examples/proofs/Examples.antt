@@ -1,8 +1,8 @@
 -- The worked examples hold: both sides compute to the same list. Assumes nothing.
 use mathlib.Core.Path.{refl}
 use lib.Ieee.{add, sub, mul, div, neg, ofBits, le, lt, eq}
-use Rattle.hex.specs.Shape.{imageAt}
-use Rattle.hex_iso.specs.Cut.{maskOf}
+use Rattle.hex_image.specs.Image.{imageAt}
+use Rattle.hex_iso_mask.specs.Cut.{maskOf}
 use Rattle.probe.specs.Check.{goodCorners, checked}
 use Rattle.descendant.specs.Place.{sign, place, descended}
 use Rattle.worked_examples.specs.Examples.{ExamplesHold}

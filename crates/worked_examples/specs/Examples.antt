@@ -11,10 +11,10 @@ use Rattle.numbers.specs.Rule.{tabulate, grid}
 use Rattle.binary64.specs.Binary64.{f0, f1, m1}
 use Rattle.binary64.specs.Answer.{Answer, answered, refused}
 use Rattle.hex.specs.Cube.{upper}
-use Rattle.hex.specs.Shape as Hex
-use Rattle.prism.specs.Shape as Prism
-use Rattle.hex_iso.specs.Cut.{isoMask}
-use Rattle.hex_iso.specs.Position.{isoPosition}
+use Rattle.hex_shape.specs.Shape as Hex
+use Rattle.prism_shape.specs.Shape as Prism
+use Rattle.hex_iso_mask.specs.Cut.{isoMask}
+use Rattle.hex_iso_position.specs.Position.{isoPosition}
 use Rattle.probe.specs.Check.{checked}
 use Rattle.descendant.specs.Place.{descended}
 

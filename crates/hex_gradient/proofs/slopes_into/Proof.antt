@@ -4,7 +4,7 @@ use mathlib.Core.List.{List}
 use lib.Ieee.{Float}
 use borrow.Author.Needs.{needs}
 use Rattle.binary64.specs.Binary64.{_⊘_, f1}
-use Rattle.mat3_col_major.specs.Mat3.{scaledCofactors}
+use Rattle.mat3_inverse.specs.Inverse.{scaledCofactors}
 use Rattle.hex_gradient.specs.Gradient.{gradientDet, slopesInSpace, fromJacobian}
 use Rattle.hex_gradient.specs.declared.Gradient.{Gradient}
 use Rattle.hex_gradient.proofs.slopes_into.Statement.{statement}

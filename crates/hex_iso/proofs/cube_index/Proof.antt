@@ -11,7 +11,7 @@ use native.Mathlib.Omega.{arith}
 use Rattle.numbers.specs.Bits.{withBits}
 use Rattle.numbers.proofs.Bits.{with-bits-below, with-bit-set, with-bit-clear}
 use Rattle.binary64.specs.Binary64.{_!_, f0}
-use Rattle.hex_iso.specs.Cut.{signIndex}
+use Rattle.hex_iso_mask.specs.Cut.{signIndex}
 use Rattle.hex_iso.proofs.cube_index.Statement.{statement}
 use Rattle.hex_iso.proofs.cube_index.Tie as tie
 

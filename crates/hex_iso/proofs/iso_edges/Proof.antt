@@ -6,7 +6,7 @@ use Rattle.hex_iso.proofs.iso_edges.Tie as tie
 returns : tie.Need-returns
 returns c =
     let held = c .before .iso-edges-into .ensures in
-    simp (c .iso-edge .ensures, held .0, held .1 .1)
+    simp (c .cut-edges .ensures, held .0, held .1 .1)
 
 pub iso-edges-spec : {M : Type 1} → statement M
 iso-edges-spec = tie.close (tie.spec (λ c κs. search needs) (λ c κs. search needs) returns)

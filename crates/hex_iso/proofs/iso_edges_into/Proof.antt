@@ -1,7 +1,7 @@
 -- `hex_iso::iso_edges_into` meets its contract: its three calls composed. Assumes nothing.
 use mathlib.Core.Path.{ap, _∙_}
 use borrow.Author.Needs.{needs}
-use Rattle.hex_iso.specs.Cut.{maskOf}
+use Rattle.hex_iso_mask.specs.Cut.{maskOf}
 use Rattle.hex_iso.proofs.iso_edges_into.Statement.{statement}
 use Rattle.hex_iso.proofs.iso_edges_into.Tie as tie
 

@@ -15,9 +15,10 @@ use Rattle.binary64.specs.Binary64.{_!_}
 use Rattle.cell.specs.Edges.{end}
 use Rattle.hex.specs.Cube.{edges}
 use Rattle.hex.proofs.Cube.{edges-of-the-cube}
-use Rattle.hex_iso.specs.Cut.{cut, signIndex, maskOf}
-use Rattle.hex_iso.specs.Position.{sign, heldOn, edgeOn}
-use Rattle.hex_iso.proofs.Cut.{cut-edges}
+use Rattle.hex_iso_mask.specs.Cut.{cut, signIndex, maskOf}
+use Rattle.hex_iso_position.specs.Position.{sign}
+use Rattle.hex_iso.specs.Edges.{heldOn, edgeOn}
+use Rattle.hex_iso_mask.proofs.Cut.{cut-edges}
 use Rattle.hex_iso.proofs.vert_list.Statement.{statement}
 use Rattle.hex_iso.proofs.vert_list.Tie as tie
 

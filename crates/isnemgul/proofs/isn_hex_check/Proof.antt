@@ -2,7 +2,7 @@
 use borrow.Author.Needs.{needs}
 use mathlib.Core.Path.{_≡_, ap, _∙_}
 use Rattle.binary64.specs.Answer.{numberOf}
-use Rattle.hex.specs.Shape.{imageAt}
+use Rattle.hex_image.specs.Image.{imageAt}
 use Rattle.probe.specs.Check.{checked}
 use Rattle.isnemgul.proofs.isn_hex_check.Statement.{statement}
 use Rattle.isnemgul.proofs.isn_hex_check.Tie as tie

@@ -1,0 +1,125 @@
+// hex.rs: the image of a place, and its slopes. Corners are 24 floats, corner by corner, as is whatever has three floats a corner.
+ghost use mathlib.Core.Path.{_≡_};
+ghost use Prim.Native.Nat.{_<_};
+ghost use Rattle.numbers.specs.Rule.{tabulate};
+ghost use Rattle.cell.specs.Image.{imageOn, jacobianOn, jacobian};
+ghost use Rattle.hex_image.specs.Image.{imageAt, jacobianAt};
+
+// Entry (idim, jdim) of the Jacobian, from the slopes.
+fn dxdr_entry(p: [f64; 24], dndr: [f64; 24], idim: usize, jdim: usize) -> f64
+    requires { ⌜ (idim < 3) × (jdim < 3) ⌝ }
+    ensures { λ r. ⌜ r ≡ jacobianOn 8 p dndr idim jdim ⌝ }
+{
+    let mut dxdr = 0.0;
+    dxdr = dxdr + p[0 + idim] * dndr[0 + jdim];
+    dxdr = dxdr + p[3 + idim] * dndr[3 + jdim];
+    dxdr = dxdr + p[6 + idim] * dndr[6 + jdim];
+    dxdr = dxdr + p[9 + idim] * dndr[9 + jdim];
+    dxdr = dxdr + p[12 + idim] * dndr[12 + jdim];
+    dxdr = dxdr + p[15 + idim] * dndr[15 + jdim];
+    dxdr = dxdr + p[18 + idim] * dndr[18 + jdim];
+    dxdr = dxdr + p[21 + idim] * dndr[21 + jdim];
+    dxdr
+}
+
+// Row idim of the Jacobian, from the slopes, of corners that are lent.
+fn dxdr_row(p: &[f64; 24], dndr: [f64; 24], idim: usize) -> [f64; 3]
+    requires { ⌜ idim < 3 ⌝ }
+    ensures { λ r. ⌜ r ≡ tabulate 3 (jacobianOn 8 (now (p .entry)) dndr idim) ⌝ }
+{
+    [
+        dxdr_entry(*p, dndr, idim, 0),
+        dxdr_entry(*p, dndr, idim, 1),
+        dxdr_entry(*p, dndr, idim, 2),
+    ]
+}
+
+// The Jacobian from the slopes, row by row.
+pub fn dxdr_from_dndr(p: [f64; 24], dndr: [f64; 24]) -> [f64; 9]
+    ensures { λ r. ⌜ r ≡ jacobian 8 p dndr ⌝ }
+{
+    let x = dxdr_row(&p, dndr, 0);
+    let y = dxdr_row(&p, dndr, 1);
+    let z = dxdr_row(&p, dndr, 2);
+    [x[0], x[1], x[2], y[0], y[1], y[2], z[0], z[1], z[2]]
+}
+
+pub fn dxdr(p: [f64; 24], pco: [f64; 3]) -> [f64; 9]
+    ensures { λ r. ⌜ r ≡ jacobianAt p pco ⌝ }
+{
+    let dndr = hex_shape::dndr(pco);
+    let x = dxdr_row(&p, dndr, 0);
+    let y = dxdr_row(&p, dndr, 1);
+    let z = dxdr_row(&p, dndr, 2);
+    [x[0], x[1], x[2], y[0], y[1], y[2], z[0], z[1], z[2]]
+}
+
+// The same of corners that are lent, into a lent output: row by row, with no other caller than the C face.
+pub fn dxdr_into(p: &[f64; 24], pco: [f64; 3], dxdr: &mut [f64; 9])
+    ensures { λ _. ⌜ now (dxdr .exit) ≡ jacobianAt (now (p .entry)) pco ⌝ }
+{
+    let dndr = hex_shape::dndr(pco);
+    *dxdr = [0.0; 9];
+    for idim in 0..3usize {
+        let row = dxdr_row(p, dndr, idim);
+        dxdr[3 * idim + 0] = row[0];
+        dxdr[3 * idim + 1] = row[1];
+        dxdr[3 * idim + 2] = row[2];
+    }
+}
+
+// Axis idim of the image, from the shape values.
+fn image_entry(an: [f64; 8], p: [f64; 24], idim: usize) -> f64
+    requires { ⌜ idim < 3 ⌝ }
+    ensures { λ r. ⌜ r ≡ imageOn 8 an p idim ⌝ }
+{
+    an[0] * p[0 + idim]
+        + an[1] * p[3 + idim]
+        + an[2] * p[6 + idim]
+        + an[3] * p[9 + idim]
+        + an[4] * p[12 + idim]
+        + an[5] * p[15 + idim]
+        + an[6] * p[18 + idim]
+        + an[7] * p[21 + idim]
+}
+
+// The image of a place.
+pub fn image(p: [f64; 24], pco: [f64; 3]) -> [f64; 3]
+    ensures { λ r. ⌜ r ≡ imageAt p pco ⌝ }
+{
+    let an = hex_shape::shapefunc(pco);
+    let mut pos = [0.0; 3];
+    for idim in 0..3usize {
+        pos[idim] = image_entry(an, p, idim);
+    }
+    pos
+}
+
+// For the Newton step, the same two by paths of their own: with no other caller they are compiled into the step.
+pub fn newton_image(p: [f64; 24], pco: [f64; 3]) -> [f64; 3]
+    ensures { λ r. ⌜ r ≡ imageAt p pco ⌝ }
+{
+    let an = hex_shape::shapefunc(pco);
+    [
+        image_entry(an, p, 0),
+        image_entry(an, p, 1),
+        image_entry(an, p, 2),
+    ]
+}
+
+pub fn newton_jacobian(p: [f64; 24], pco: [f64; 3]) -> [f64; 9]
+    ensures { λ r. ⌜ r ≡ jacobianAt p pco ⌝ }
+{
+    let dndr = hex_shape::dndr(pco);
+    [
+        dxdr_entry(p, dndr, 0, 0),
+        dxdr_entry(p, dndr, 0, 1),
+        dxdr_entry(p, dndr, 0, 2),
+        dxdr_entry(p, dndr, 1, 0),
+        dxdr_entry(p, dndr, 1, 1),
+        dxdr_entry(p, dndr, 1, 2),
+        dxdr_entry(p, dndr, 2, 0),
+        dxdr_entry(p, dndr, 2, 1),
+        dxdr_entry(p, dndr, 2, 2),
+    ]
+}

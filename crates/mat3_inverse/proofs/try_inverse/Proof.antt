@@ -1,0 +1,31 @@
+-- `mat3_inverse::try_inverse` meets its contract: the test is the definition's, and the nine floats are `scaled_cofactors`'. Assumes nothing.
+use borrow.Author.Needs.{needs}
+use Rattle.mat3_inverse.specs.Inverse.{inverse}
+use Rattle.mat3_inverse.proofs.try_inverse.Statement.{statement}
+use Rattle.mat3_inverse.proofs.try_inverse.Tie as tie
+
+returns : tie.Need-returns
+unfolding inverse
+returns c = simp (← c .before .determinant .ensures, c .if1 .taken)
+
+returns-2 : tie.Need-returns-2
+unfolding inverse
+returns-2 c = simp (c .scaled-cofactors .ensures, ← c .before .before .determinant .ensures, c .before .if1 .left)
+
+pub try-inverse-spec : {M : Type 1} → statement M
+try-inverse-spec =
+    tie.close
+    (tie.spec
+    (λ c κs. search needs)
+    returns
+    (λ c κs. search needs)
+    (λ c. search needs)
+    (λ c. search needs)
+    (λ c. search needs)
+    (λ c. search needs)
+    (λ c. search needs)
+    (λ c. search needs)
+    (λ c. search needs)
+    (λ c. search needs)
+    (λ c. search needs)
+    returns-2)
