@@ -10,7 +10,7 @@ ifneq ($(shell uname -m),x86_64)
 VIA = tools/x86-64
 endif
 
-.PHONY: demo test compare second
+.PHONY: demo test compare second words
 
 # `rt staticlib` alone would prove the rooms below one after another.
 $(ARCHIVE): crates.txt $(shell find crates -name '*.rt' -o -name '*.antt')
@@ -24,6 +24,11 @@ demo: $(ARCHIVE)
 
 test:
 	.ci/run
+
+words: $(ARCHIVE)
+	mkdir -p target/words
+	$(VIA) cc -std=c99 $(STRICT) -Iinclude tools/words.c $(ARCHIVE) -o target/words/words
+	$(VIA) target/words/words | tools/words
 
 # The carried functions against the original Rust, and the additions against an independent second program in Python: both write cases with their
 # answers, and the driver calls the archive and compares.
