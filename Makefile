@@ -6,7 +6,8 @@
 # make compare     CASES=20000 SEED=1: the carried functions against the original Rust
 # make second      CASES=20000 SEED=1: the additions against the second program
 # make words       whether the refusals' words, the sizes and the version are the same wherever they stand
-# make test        the gate: proves everything from nothing, and then makes demo to words
+# make installed   whether programs build and run with what make install writes
+# make test        the gate: proves everything from nothing, and then makes demo to installed
 # make bench       BENCH=--instructions: times beside the original's, or instructions
 # make stack       the stack that each entry takes
 # make sanitize    the C programs under sanitizers, and the Rust crate's tests under valgrind
@@ -25,7 +26,7 @@ ifneq ($(shell uname -m),x86_64)
 VIA = tools/x86-64
 endif
 
-.PHONY: help demo test compare second words install clean
+.PHONY: help demo test compare second words install installed clean
 
 help:
 	@sed -n '/^#/!q; s/^# //p' Makefile
@@ -60,6 +61,9 @@ install: $(ARCHIVE) $(SHARED)
 	ln -sf $(notdir $(SHARED)) '$(TO)/lib/$(SONAME)'
 	ln -sf $(SONAME) '$(TO)/lib/libisnemgul.so'
 	sed 's|@PREFIX@|$(PREFIX)|; s|@VERSION@|$(VERSION)|' tools/isnemgul.pc.in >'$(TO)/lib/pkgconfig/isnemgul.pc'
+
+installed: target/demo/demo $(SHARED)
+	VIA='$(VIA)' tools/installed
 
 test:
 	.ci/run
