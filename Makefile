@@ -60,7 +60,8 @@ install: $(ARCHIVE) $(SHARED)
 	install -m 755 $(SHARED) '$(TO)/lib'
 	ln -sf $(notdir $(SHARED)) '$(TO)/lib/$(SONAME)'
 	ln -sf $(SONAME) '$(TO)/lib/libisnemgul.so'
-	sed 's|@PREFIX@|$(PREFIX)|; s|@VERSION@|$(VERSION)|' tools/isnemgul.pc.in >'$(TO)/lib/pkgconfig/isnemgul.pc'
+	sed 's|@PREFIX@|$(PREFIX)|; s|@VERSION@|$(VERSION)|' tools/isnemgul.pc.in >target/shared/isnemgul.pc
+	install -m 644 target/shared/isnemgul.pc '$(TO)/lib/pkgconfig'
 
 installed: target/demo/demo $(SHARED)
 	VIA='$(VIA)' tools/installed
