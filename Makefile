@@ -1,29 +1,81 @@
-# make demo, make examples: programs that link the archive.  make test: the gate.  make rust: the Rust crate's tests.
-# make compare, make second (CASES=1000000): longer comparisons.  make bench, make stack: times and stack use.  make sanitize.
+# make help        these lines, as make alone
+# make install     PREFIX=/usr/local DESTDIR=: the header, the archive, the shared library and isnemgul.pc
+# make demo        a C program that links the archive
+# make examples    the C++ program, and the Fortran one
+# make rust        the tests of the Rust crate
+# make compare     CASES=20000 SEED=1: the carried functions against the original Rust
+# make second      CASES=20000 SEED=1: the additions against the second program
+# make words       whether the refusals' words, the sizes and the version are the same wherever they stand
+# make installed   whether programs build and run with what make install writes
+# make test        the gate: proves everything from nothing, and then makes demo to installed
+# make bench       BENCH=--instructions: times beside the original's, or instructions
+# make stack       the stack that each entry takes
+# make sanitize    the C programs under sanitizers, and the Rust crate's tests under valgrind
+# make clean       removes what was built
 CASES ?= 20000
 SEED ?= 1
+PREFIX ?= /usr/local
 ARCHIVE = target/staticlib/libisnemgul.a
 STRICT = -Wall -Wextra -pedantic -O2
+VERSION := $(shell sed -n 's/^.define ISN_VERSION "\(.*\)"$$/\1/p' include/isnemgul.h)
+SONAME = libisnemgul.so.$(firstword $(subst ., ,$(VERSION)))
+SHARED = target/shared/libisnemgul.so.$(VERSION)
 
 # The archive is for x86-64. On another machine tools/x86-64 makes and runs what links it.
 ifneq ($(shell uname -m),x86_64)
 VIA = tools/x86-64
 endif
 
-.PHONY: demo test compare second
+.PHONY: help demo test compare second words install installed clean
+
+help:
+	@sed -n '/^#/!q; s/^# //p' Makefile
 
 # `rt staticlib` alone would prove the rooms below one after another.
 $(ARCHIVE): crates.txt $(shell find crates -name '*.rt' -o -name '*.antt')
 	RT_JOBS=$${RT_JOBS:-4} rt check $$(sed -n 's/^isnemgul://p' crates.txt)
 	rt staticlib isnemgul
 
-demo: $(ARCHIVE)
-	mkdir -p target/demo
-	$(VIA) cc -std=c99 $(STRICT) -Iinclude demo/demo.c $(ARCHIVE) -o target/demo/demo
+# It exports the functions of the C face and nothing else.
+$(SHARED): $(ARCHIVE) tools/isnemgul.map include/isnemgul.h
+	mkdir -p $(@D)
+	$(VIA) cc -shared -Wl,--whole-archive $(ARCHIVE) -Wl,--no-whole-archive -Wl,-soname,$(SONAME) -Wl,-z,defs \
+	    -Wl,--version-script,tools/isnemgul.map -o $@
+
+target/demo/demo: demo/demo.c include/isnemgul.h $(ARCHIVE)
+	mkdir -p $(@D)
+	$(VIA) cc -std=c99 $(STRICT) -Iinclude demo/demo.c $(ARCHIVE) -o $@
+
+demo: target/demo/demo
 	$(VIA) target/demo/demo
+
+# Packagers set DESTDIR: the files go below it, and are for PREFIX all the same.
+TO = $(DESTDIR)$(PREFIX)
+
+install: $(ARCHIVE) $(SHARED)
+	@case '$(PREFIX)' in /*) ;; *) echo "make install: PREFIX=$(PREFIX) does not begin with /" >&2; exit 2 ;; esac
+	install -d '$(TO)/include' '$(TO)/lib/pkgconfig'
+	install -m 644 include/isnemgul.h '$(TO)/include'
+	install -m 644 $(ARCHIVE) '$(TO)/lib'
+	install -m 755 $(SHARED) '$(TO)/lib'
+	ln -sf $(notdir $(SHARED)) '$(TO)/lib/$(SONAME)'
+	ln -sf $(SONAME) '$(TO)/lib/libisnemgul.so'
+	sed 's|@PREFIX@|$(PREFIX)|; s|@VERSION@|$(VERSION)|' tools/isnemgul.pc.in >target/shared/isnemgul.pc
+	install -m 644 target/shared/isnemgul.pc '$(TO)/lib/pkgconfig'
+
+installed: target/demo/demo $(SHARED)
+	VIA='$(VIA)' tools/installed
 
 test:
 	.ci/run
+
+words: $(ARCHIVE)
+	mkdir -p target/words
+	$(VIA) cc -std=c99 $(STRICT) -Iinclude tools/words.c $(ARCHIVE) -o target/words/words
+	$(VIA) target/words/words | tools/words
+
+clean:
+	rm -rf target bench/target bindings/rust/target oracle/target
 
 # The carried functions against the original Rust, and the additions against an independent second program in Python: both write cases with their
 # answers, and the driver calls the archive and compares.

@@ -12,10 +12,10 @@ static void around(const double *mesh, size_t corners, const double probe[3], do
 
 static void say(const char *cell, const double probe[3], uint32_t answer, const double at[3]) {
     printf("%s, probe at (%g, %g, %g): ", cell, probe[0], probe[1], probe[2]);
-    if (answer == 0)
+    if (answer == ISN_OK)
         printf("inside at (%.17g, %.17g, %.17g)\n", at[0], at[1], at[2]);
     else
-        printf("refused %u, %s\n", (unsigned)answer, answer == 1 ? "the cell is flat there" : "the probe is outside");
+        printf("refused %u: %s\n", (unsigned)answer, isn_refusal_text(answer));
 }
 
 static void locate(void) {
@@ -32,22 +32,25 @@ static void locate(void) {
     double found[3];
     around(block, 8, probes[0], corners);
     uint32_t answer = isn_hex_locate_checked(corners, 1e-9, found);
-    printf("block, probe checked to 1e-9: %s\n", answer == 0 ? "accepted" : "refused");
+    printf("block, probe checked to 1e-9: %s\n", answer == ISN_OK ? "accepted" : isn_refusal_text(answer));
+    if (answer != ISN_OK)
+        return;
     found[0] += 1e-6;
-    printf("block, a place 1e-6 beside it: refused %u, too far from the probe\n", (unsigned)isn_hex_check(corners, found, 1e-9));
+    answer = isn_hex_check(corners, found, 1e-9);
+    printf("block, a place 1e-6 beside it: refused %u: %s\n", (unsigned)answer, isn_refusal_text(answer));
 }
 
 /* The table that `hexkids` prints for a mesh file with these cells. */
 static void refine(void) {
     static const uint32_t cells[16] = {0, 1, 2, 3, 4, 5, 6, 7, 1, 8, 9, 2, 5, 11, 10, 6};
-    uint32_t children[128], next;
-    uint32_t answer = isn_refine(12, cells, 16, children, 128, &next);
-    if (answer != 0) {
-        printf("refused %u\n", (unsigned)answer);
+    uint32_t children[2 * ISN_REFINED_NUMBERS], next;
+    uint32_t answer = isn_refine(12, cells, 16, children, 2 * ISN_REFINED_NUMBERS, &next);
+    if (answer != ISN_OK) {
+        printf("refused %u: %s\n", (unsigned)answer, isn_refusal_text(answer));
         return;
     }
     printf("cells 16 nodes %u\n", (unsigned)next);
-    for (size_t i = 0; i < 128; i++)
+    for (size_t i = 0; i < 2 * ISN_REFINED_NUMBERS; i++)
         printf("%u%c", (unsigned)children[i], i % 8 == 7 ? '\n' : ' ');
 }
 

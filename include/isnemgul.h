@@ -1,6 +1,7 @@
-/* Isnemgul: hexahedra and prisms, proved. Link with libisnemgul.a (`rt staticlib isnemgul`).
+/* Isnemgul: hexahedra and prisms, proved. Link with -lisnemgul (`make install`), or with the archive libisnemgul.a itself.
  *
  * Every function returns 0 where it answered and otherwise a refusal's number, and then no lent memory has changed.
+ * isn_refusal_text has the number in words.
  *
  * - An array parameter is a pointer to that many elements. A list is a pointer and a length in elements; a list of length 0 may
  *   have a null pointer. Every other pointer is valid and aligned for its type. The buffers of one call do not overlap.
@@ -15,9 +16,77 @@
 #include <stddef.h>
 #include <stdint.h>
 
+#define ISN_VERSION "0.1.0"
+
+/* Limits. Nothing allocates, so each is fixed; beyond one the answer is ISN_REFUSED_LIMIT. */
+#define ISN_MAX_NODES 1024    /* nodes in a mesh */
+#define ISN_MAX_CELLS 128     /* cells in a mesh */
+#define ISN_MAX_PROPOSALS 256 /* proposals in a list */
+#define ISN_MAX_DEPTH 20      /* octants in a path */
+#define ISN_MAX_POINTS 16     /* quadrature points in a list */
+
+/* How many numbers isn_refine writes for each cell: eight children of eight nodes. */
+#define ISN_REFINED_NUMBERS 64
+
 #ifdef __cplusplus
 extern "C" {
 #endif
+
+/* What a function returns. */
+enum isn_answer {
+    ISN_OK = 0,
+    ISN_REFUSED_FLAT = 1,
+    ISN_REFUSED_OUTSIDE = 2,
+    ISN_REFUSED_CORNER = 3,
+    ISN_REFUSED_TOLERANCE = 4,
+    ISN_REFUSED_COORDINATE = 5,
+    ISN_REFUSED_TOO_FAR = 6,
+    ISN_REFUSED_LIMIT = 7,
+    ISN_REFUSED_LENGTH = 8,
+    ISN_REFUSED_RANGE = 9,
+    ISN_REFUSED_TWICE = 10,
+    ISN_REFUSED_MARK = 11,
+    ISN_REFUSED_VERSION = 12,
+    ISN_REFUSED_FILE_LENGTH = 13
+};
+
+/* A returned number in words, never null. docs/REFUSALS.md adds how to mend the input; `make words` holds it and the Rust crate to
+ * these words. */
+static inline const char *isn_refusal_text(uint32_t number) {
+    switch (number) {
+    case ISN_OK:
+        return "answered";
+    case ISN_REFUSED_FLAT:
+        return "a determinant is plus or minus zero: the cell is flat where Newton stepped, or the matrix has no inverse";
+    case ISN_REFUSED_OUTSIDE:
+        return "after 20 Newton steps the place is not inside the cell; a NaN is not inside";
+    case ISN_REFUSED_CORNER:
+        return "a corner coordinate is NaN, infinite, or not zero and of a size below 2^-100 or above 2^100";
+    case ISN_REFUSED_TOLERANCE:
+        return "the tolerance is NaN, infinite or below zero; minus zero is good";
+    case ISN_REFUSED_COORDINATE:
+        return "a coordinate of the proposed place is not in [-1,1], or is NaN";
+    case ISN_REFUSED_TOO_FAR:
+        return "the image of the place is further from the probe than the tolerance on some axis";
+    case ISN_REFUSED_LIMIT:
+        return "over a limit: 1,024 nodes, 128 cells, 256 proposals, a path of 20 octants; or not 1 to 16 quadrature points in a list";
+    case ISN_REFUSED_LENGTH:
+        return "a list is not whole (8 numbers a cell, 2 floats a line point, 3 a triangle point), or an output is too short";
+    case ISN_REFUSED_RANGE:
+        return "a number is out of range: a node not below the node count, an octant or corner above 7, "
+               "a quadrature point not in its list, a sign index above 255";
+    case ISN_REFUSED_TWICE:
+        return "a node stands twice in one cell";
+    case ISN_REFUSED_MARK:
+        return "the file does not begin with HXM";
+    case ISN_REFUSED_VERSION:
+        return "the file's version is not 1";
+    case ISN_REFUSED_FILE_LENGTH:
+        return "the file's length is wrong: under 13 bytes, or not 13 + 24 a node + 32 a cell";
+    default:
+        return "no refusal of this version has this number";
+    }
+}
 
 /* Matrices of nine floats, column by column. */
 

@@ -9,6 +9,8 @@ use crate::mat3::Mat3;
 type Eight<T> = [T; 8];
 type Six<T> = [T; 6];
 
+// SAFETY: these are the header's functions with its types: an array lies in memory as the header's
+// flat one, and `Proposal` as isn_proposal. What each reads and writes is proved.
 unsafe extern "C" {
     pub safe fn isn_mat3_transpose(m: &Mat3, out: &mut Mat3) -> u32;
     pub safe fn isn_mat3_mult_vec(a: &Mat3, b: &Point, out: &mut Point) -> u32;

@@ -44,6 +44,7 @@ const NO_GRADIENT: Gradient = Gradient { dndx: [[0.0; 3]; 8], det: 0.0 };
 /// ```
 /// assert_eq!(isnemgul::hex::shapefunc(&[1., 1., 1.]), [0., 0., 0., 0., 0., 0., 1., 0.]);
 /// ```
+#[must_use]
 pub fn shapefunc(pco: &Point) -> [f64; 8] {
     always([0.0; 8], |out| isn_hex_shapefunc(pco, out))
 }
@@ -53,6 +54,7 @@ pub fn shapefunc(pco: &Point) -> [f64; 8] {
 /// ```
 /// assert_eq!(isnemgul::hex::dndr(&[0.; 3])[6], [0.125, 0.125, 0.125]);
 /// ```
+#[must_use]
 pub fn dndr(pco: &Point) -> Corners {
     always([[0.0; 3]; 8], |out| isn_hex_dndr(pco, out))
 }
@@ -64,6 +66,7 @@ pub fn dndr(pco: &Point) -> Corners {
 /// let block = hex::SIGNS.map(|[x, y, z]| [2. * x, 3. * y, z]);
 /// assert_eq!(hex::dxdr(&block, &[0.; 3]), [[2., 0., 0.], [0., 3., 0.], [0., 0., 1.]]);
 /// ```
+#[must_use]
 pub fn dxdr(corners: &Corners, pco: &Point) -> [Point; 3] {
     always([[0.0; 3]; 3], |out| isn_hex_dxdr(corners, pco, out))
 }
@@ -77,6 +80,7 @@ pub fn dxdr(corners: &Corners, pco: &Point) -> [Point; 3] {
 /// let gradient = hex::grad_shapefunc_from_dndr(&block, &hex::dndr(&[0.; 3]));
 /// assert_eq!((gradient.dndx[6], gradient.det), ([0.0625, 0.125, 0.125], 2.));
 /// ```
+#[must_use]
 pub fn grad_shapefunc_from_dndr(corners: &Corners, dndr: &Corners) -> Gradient {
     always(NO_GRADIENT, |out| {
         isn_hex_grad_shapefunc_from_dndr(corners, dndr, &mut out.dndx, &mut out.det)
@@ -90,6 +94,7 @@ pub fn grad_shapefunc_from_dndr(corners: &Corners, dndr: &Corners) -> Gradient {
 /// let (shape, gradient) = hex::dndx(&hex::SIGNS, &[0.; 3]);
 /// assert_eq!((shape, gradient.det), ([0.125; 8], 1.));
 /// ```
+#[must_use]
 pub fn dndx(corners: &Corners, pco: &Point) -> ([f64; 8], Gradient) {
     always(([0.0; 8], NO_GRADIENT), |(shape, out)| {
         isn_hex_dndx(corners, pco, shape, &mut out.dndx, &mut out.det)
@@ -99,9 +104,6 @@ pub fn dndx(corners: &Corners, pco: &Point) -> ([f64; 8], Gradient) {
 /// The slopes in space at the place of three quadrature points, `det` being the determinant times
 /// their weights. `points` is flat: place, weight.
 ///
-/// Refused: [`Length`](Refusal::Length) not whole, [`Limit`](Refusal::Limit) not 1 to 16 points,
-/// [`Range`](Refusal::Range) a point number out of range.
-///
 /// ```
 /// use isnemgul::{Refusal, hex};
 /// let points = [-0.5, 1., 0.5, 2.];
@@ -110,6 +112,11 @@ pub fn dndx(corners: &Corners, pco: &Point) -> ([f64; 8], Gradient) {
 /// assert_eq!(hex::grad_shapefunc(&hex::SIGNS, &points, [0, 1, 2]), Err(Refusal::Range));
 /// # Ok::<(), Refusal>(())
 /// ```
+///
+/// # Errors
+///
+/// [`Length`](Refusal::Length) the list is not whole, [`Limit`](Refusal::Limit) it has not 1 to 16
+/// points, [`Range`](Refusal::Range) a point number is out of range.
 pub fn grad_shapefunc(
     corners: &Corners,
     points: &[f64],
@@ -117,6 +124,7 @@ pub fn grad_shapefunc(
 ) -> Result<Gradient, Refusal> {
     answer(NO_GRADIENT, |out| {
         let (dndx, det) = (&mut out.dndx, &mut out.det);
+        // SAFETY: the list is one slice, lent for the call.
         unsafe {
             isn_hex_grad_shapefunc(corners, points.as_ptr(), points.len(), i1, i2, i3, dndx, det)
         }
@@ -125,40 +133,49 @@ pub fn grad_shapefunc(
 
 /// The volume, by quadrature points of a line: place, weight, flat.
 ///
-/// Refused: [`Length`](Refusal::Length) not whole, [`Limit`](Refusal::Limit) not 1 to 16 points.
-///
 /// ```
 /// use isnemgul::{Refusal, hex};
 /// assert_eq!(hex::volume(&hex::SIGNS, &[0., 2.]), Ok(8.));
 /// assert_eq!(hex::volume(&hex::SIGNS, &[0., 2., 0.5]), Err(Refusal::Length));
 /// ```
+///
+/// # Errors
+///
+/// [`Length`](Refusal::Length) the list is not whole, [`Limit`](Refusal::Limit) it has not 1 to 16
+/// points.
 pub fn volume(corners: &Corners, points: &[f64]) -> Result<f64, Refusal> {
+    // SAFETY: the list is one slice, lent for the call.
     answer(0.0, |out| unsafe { isn_hex_volume(corners, points.as_ptr(), points.len(), out) })
 }
 
-/// The place whose image is the origin, by twenty Newton steps.
-///
-/// Refused: [`Flat`](Refusal::Flat), [`Outside`](Refusal::Outside). An answer may still be far from
-/// the probe: see [`locate_checked`].
+/// The place whose image is the origin, by twenty Newton steps. It may still be far from the probe:
+/// see [`locate_checked`].
 ///
 /// ```
 /// use isnemgul::{Refusal, hex};
 /// assert_eq!(hex::parametric_coord_for_origin(&hex::SIGNS), Ok([0.; 3]));
 /// assert_eq!(hex::parametric_coord_for_origin(&[[1.; 3]; 8]), Err(Refusal::Flat));
 /// ```
+///
+/// # Errors
+///
+/// [`Flat`](Refusal::Flat) a step's determinant is zero, [`Outside`](Refusal::Outside) the twenty
+/// steps do not end inside the cell.
 pub fn parametric_coord_for_origin(corners: &Corners) -> Result<Point, Refusal> {
     answer([0.0; 3], |at| isn_hex_parametric_coord_for_origin(corners, at))
 }
 
 /// Where the surface of value zero cuts the line between two nodes of a cube.
 ///
-/// Refused: [`Range`](Refusal::Range) a node number above 7.
-///
 /// ```
 /// use isnemgul::hex;
 /// let cut = hex::iso_position_on_edge(&[0.; 3], 1., [0, 1], [-1., 3.]);
 /// assert_eq!(cut, Ok([-0.5, -1., -1.]));
 /// ```
+///
+/// # Errors
+///
+/// [`Range`](Refusal::Range) a node number is above 7.
 pub fn iso_position_on_edge(
     center: &Point,
     half_width: f64,
@@ -179,6 +196,7 @@ pub fn iso_position_on_edge(
 /// assert_eq!((index, cuts[0]), (1, [-0.5, -1., -1.]));
 /// assert_eq!(cuts[1], [f64::INFINITY; 3]);
 /// ```
+#[must_use]
 pub fn iso_edges(center: &Point, half_width: f64, values: &[f64; 8]) -> (u32, [Point; 12]) {
     always((0, [[0.0; 3]; 12]), |(index, positions)| {
         isn_hex_iso_edges(center, half_width, values, index, positions)
@@ -187,13 +205,15 @@ pub fn iso_edges(center: &Point, half_width: f64, values: &[f64; 8]) -> (u32, [P
 
 /// The cut edges of a sign index (bit k: edge k is cut).
 ///
-/// Refused: [`Range`](Refusal::Range) an index above 255.
-///
 /// ```
 /// use isnemgul::{Refusal, hex};
 /// assert_eq!(hex::iso_mask(1), Ok(0x109));
 /// assert_eq!(hex::iso_mask(256), Err(Refusal::Range));
 /// ```
+///
+/// # Errors
+///
+/// [`Range`](Refusal::Range) the index is above 255.
 pub fn iso_mask(index: u32) -> Result<u32, Refusal> {
     answer(0, |mask| isn_hex_iso_mask(index, mask))
 }
@@ -208,6 +228,7 @@ pub fn iso_mask(index: u32) -> Result<u32, Refusal> {
 /// let children = hex::subdivide(&corner, &edge, &std::array::from_fn(numbers(20)), 26);
 /// assert_eq!(children[0], [0, 8, 20, 11, 16, 21, 26, 24]);
 /// ```
+#[must_use]
 pub fn subdivide(
     corner: &[u32; 8],
     edge: &[u32; 12],
@@ -222,38 +243,40 @@ pub fn subdivide(
 /// With M the largest corner size on an axis and e = 14 M / 2^53: accepted, the exact image is at
 /// most tolerance + e from the probe; an exact image at most tolerance - e is accepted.
 ///
-/// Refused: [`Corner`](Refusal::Corner), [`Tolerance`](Refusal::Tolerance),
-/// [`Coordinate`](Refusal::Coordinate), [`TooFar`](Refusal::TooFar).
-///
 /// ```
 /// use isnemgul::{Refusal, hex};
 /// let cube = hex::SIGNS.map(|corner| corner.map(|x| 2. * x));
 /// assert_eq!(hex::check(&cube, &[0.5, 0., 0.], 1.), Ok(()));
 /// assert_eq!(hex::check(&cube, &[0.5, 0., 0.], 0.5), Err(Refusal::TooFar));
 /// ```
+///
+/// # Errors
+///
+/// [`Corner`](Refusal::Corner), [`Tolerance`](Refusal::Tolerance),
+/// [`Coordinate`](Refusal::Coordinate), [`TooFar`](Refusal::TooFar).
 pub fn check(corners: &Corners, at: &Point, tolerance: f64) -> Result<(), Refusal> {
     answer((), |()| isn_hex_check(corners, at, tolerance))
 }
 
 /// The place that the locator finds, if its image is within the tolerance of the probe.
 ///
-/// Refused: [`Corner`](Refusal::Corner), [`Tolerance`](Refusal::Tolerance), then
-/// [`Flat`](Refusal::Flat) or [`Outside`](Refusal::Outside), then [`TooFar`](Refusal::TooFar).
-///
 /// ```
 /// use isnemgul::{Refusal, hex};
 /// assert_eq!(hex::locate_checked(&hex::SIGNS, 0.), Ok([0.; 3]));
 /// assert_eq!(hex::locate_checked(&hex::SIGNS, f64::NAN), Err(Refusal::Tolerance));
 /// ```
+///
+/// # Errors
+///
+/// [`Corner`](Refusal::Corner), [`Tolerance`](Refusal::Tolerance), then [`Flat`](Refusal::Flat) or
+/// [`Outside`](Refusal::Outside) as [`parametric_coord_for_origin`] has them, then
+/// [`TooFar`](Refusal::TooFar).
 pub fn locate_checked(corners: &Corners, tolerance: f64) -> Result<Point, Refusal> {
     answer([0.0; 3], |at| isn_hex_locate_checked(corners, tolerance, at))
 }
 
 /// Checks a list of proposals: writes 0 or the refusal's number for each, and answers how many were
 /// accepted. What `out` holds behind them stays.
-///
-/// Refused: [`Limit`](Refusal::Limit) over 256 proposals, [`Length`](Refusal::Length) an output that
-/// is shorter than the list.
 ///
 /// ```
 /// use isnemgul::hex::{self, Proposal};
@@ -263,12 +286,18 @@ pub fn locate_checked(corners: &Corners, tolerance: f64) -> Result<Point, Refusa
 /// assert_eq!(hex::check_proposals(&cube, &list, &mut out), Ok(1));
 /// assert_eq!(out, [0, 6, 77]);
 /// ```
+///
+/// # Errors
+///
+/// [`Limit`](Refusal::Limit) over 256 proposals, [`Length`](Refusal::Length) the output is shorter
+/// than the list.
 pub fn check_proposals(
     corners: &Corners,
     list: &[Proposal],
     out: &mut [u32],
 ) -> Result<u32, Refusal> {
     let (records, numbers) = ((list.as_ptr(), list.len()), (out.as_mut_ptr(), out.len()));
+    // SAFETY: each list is one slice, lent for the call, and `out` to it alone.
     answer(0, |accepted| unsafe {
         isn_hex_check_proposals(corners, records.0, records.1, numbers.0, numbers.1, accepted)
     })

@@ -16,10 +16,6 @@ pub struct Counts {
 /// child, and answers the next free number. Cells that share an edge or a face share the number of
 /// its middle. What `out` holds behind them stays.
 ///
-/// Refused: [`Limit`](Refusal::Limit) over 1,024 nodes or 128 cells, [`Length`](Refusal::Length) the
-/// list is not whole or the output too short, then cell by cell [`Range`](Refusal::Range) a node that
-/// is not below `n`, [`Twice`](Refusal::Twice) a node twice.
-///
 /// ```
 /// use isnemgul::{Refusal, mesh};
 /// let cells = [0, 1, 2, 3, 4, 5, 6, 7, 1, 8, 9, 2, 5, 11, 10, 6];
@@ -28,16 +24,20 @@ pub struct Counts {
 /// assert_eq!((out[8 + 6], out[64 + 7]), (26, 26)); // the middle of the face that they share
 /// assert_eq!(mesh::refine(12, &cells, &mut out[1..]), Err(Refusal::Length));
 /// ```
+///
+/// # Errors
+///
+/// [`Limit`](Refusal::Limit) over 1,024 nodes or 128 cells, [`Length`](Refusal::Length) the list is
+/// not whole or the output too short, then cell by cell [`Range`](Refusal::Range) a node is not
+/// below `n`, [`Twice`](Refusal::Twice) a node stands twice.
 pub fn refine(n: u32, cells: &[u32], out: &mut [u32]) -> Result<u32, Refusal> {
     let (numbers, length) = (out.as_mut_ptr(), out.len());
+    // SAFETY: each list is one slice, lent for the call, and `out` to it alone.
     answer(0, |next| unsafe { isn_refine(n, cells.as_ptr(), cells.len(), numbers, length, next) })
 }
 
 /// Where a corner stands in the descendant that a path of octants leads to, in units of 2^-d, where
 /// the path has d octants.
-///
-/// Refused: [`Limit`](Refusal::Limit) over 20 octants, [`Range`](Refusal::Range) an octant or the
-/// corner above 7.
 ///
 /// ```
 /// use isnemgul::{Refusal, mesh};
@@ -45,17 +45,18 @@ pub fn refine(n: u32, cells: &[u32], out: &mut [u32]) -> Result<u32, Refusal> {
 /// assert_eq!(mesh::descendant(&[], 1), Ok([1, -1, -1]));
 /// assert_eq!(mesh::descendant(&[8], 0), Err(Refusal::Range));
 /// ```
+///
+/// # Errors
+///
+/// [`Limit`](Refusal::Limit) over 20 octants, [`Range`](Refusal::Range) an octant or the corner is
+/// above 7.
 pub fn descendant(path: &[u32], corner: u32) -> Result<[i32; 3], Refusal> {
+    // SAFETY: the list is one slice, lent for the call.
     answer([0; 3], |out| unsafe { isn_descendant(path.as_ptr(), path.len(), corner, out) })
 }
 
 /// Reads a mesh file: three float64 bit patterns a node, eight node numbers a cell. What the lists
 /// hold behind them stays.
-///
-/// Refused: [`FileLength`](Refusal::FileLength) under 13 bytes, [`Mark`](Refusal::Mark),
-/// [`Version`](Refusal::Version), [`Limit`](Refusal::Limit), `FileLength`, then cell by cell
-/// [`Range`](Refusal::Range) and [`Twice`](Refusal::Twice), last [`Length`](Refusal::Length) a lent
-/// list that is too short.
 ///
 /// ```
 /// use isnemgul::{Refusal, mesh};
@@ -68,9 +69,17 @@ pub fn descendant(path: &[u32], corner: u32) -> Result<[i32; 3], Refusal> {
 /// assert_eq!(mesh::read(&file[1..], &mut nodes, &mut []), Err(Refusal::Mark));
 /// # Ok::<(), Refusal>(())
 /// ```
+///
+/// # Errors
+///
+/// [`FileLength`](Refusal::FileLength) under 13 bytes, [`Mark`](Refusal::Mark),
+/// [`Version`](Refusal::Version), [`Limit`](Refusal::Limit), `FileLength` not what the counts say,
+/// then cell by cell [`Range`](Refusal::Range) and [`Twice`](Refusal::Twice), last
+/// [`Length`](Refusal::Length) a lent list is too short.
 pub fn read(bytes: &[u8], nodes: &mut [u64], cells: &mut [u32]) -> Result<Counts, Refusal> {
     let (words, numbers) = ((nodes.as_mut_ptr(), nodes.len()), (cells.as_mut_ptr(), cells.len()));
     let (file, length) = (bytes.as_ptr(), bytes.len());
+    // SAFETY: each list is one slice, lent for the call, and `nodes` and `cells` to it alone.
     let counts = answer([0; 2], |counts| unsafe {
         isn_hxm_read(file, length, words.0, words.1, numbers.0, numbers.1, counts)
     });

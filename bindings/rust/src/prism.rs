@@ -16,6 +16,7 @@ pub const PLACES: Corners =
 /// ```
 /// assert_eq!(isnemgul::prism::shapefunc(&[0., 0., 1.]), [0., 0., 0., 1., 0., 0.]);
 /// ```
+#[must_use]
 pub fn shapefunc(pco: &Point) -> [f64; 6] {
     always([0.0; 6], |out| isn_prism_shapefunc(pco, out))
 }
@@ -25,6 +26,7 @@ pub fn shapefunc(pco: &Point) -> [f64; 6] {
 /// ```
 /// assert_eq!(isnemgul::prism::dndr(&[0.; 3])[1], [1., 0., 0.]);
 /// ```
+#[must_use]
 pub fn dndr(pco: &Point) -> Corners {
     always([[0.0; 3]; 6], |out| isn_prism_dndr(pco, out))
 }
@@ -36,14 +38,12 @@ pub fn dndr(pco: &Point) -> Corners {
 /// let rib = prism::PLACES.map(|[x, y, z]| [2. * x, 3. * y, 5. * z]);
 /// assert_eq!(prism::dxdr(&rib, &[0.; 3]), [[2., 0., 0.], [0., 3., 0.], [0., 0., 5.]]);
 /// ```
+#[must_use]
 pub fn dxdr(corners: &Corners, pco: &Point) -> [Point; 3] {
     always([[0.0; 3]; 3], |out| isn_prism_dxdr(corners, pco, out))
 }
 
 /// The volume, by points of a line (place, weight) and of a triangle (r, s, weight), both flat.
-///
-/// Refused: [`Length`](Refusal::Length) the line list, then the triangle list, is not whole;
-/// [`Limit`](Refusal::Limit) the line list, then the triangle list, has not 1 to 16 points.
 ///
 /// ```
 /// use isnemgul::{Refusal, prism};
@@ -51,8 +51,14 @@ pub fn dxdr(corners: &Corners, pco: &Point) -> [Point; 3] {
 /// assert_eq!(prism::volume(&prism::PLACES, &[0., 2.], &triangle), Ok(0.5));
 /// assert_eq!(prism::volume(&prism::PLACES, &[], &triangle), Err(Refusal::Limit));
 /// ```
+///
+/// # Errors
+///
+/// [`Length`](Refusal::Length) the line list, then the triangle list, is not whole;
+/// [`Limit`](Refusal::Limit) the line list, then the triangle list, has not 1 to 16 points.
 pub fn volume(corners: &Corners, line: &[f64], triangle: &[f64]) -> Result<f64, Refusal> {
     let (points, length) = (triangle.as_ptr(), triangle.len());
+    // SAFETY: each list is one slice, lent for the call.
     answer(0.0, |out| unsafe {
         isn_prism_volume(corners, line.as_ptr(), line.len(), points, length, out)
     })
@@ -60,14 +66,17 @@ pub fn volume(corners: &Corners, line: &[f64], triangle: &[f64]) -> Result<f64, 
 
 /// The place whose image is the origin, by twenty Newton steps.
 ///
-/// Refused: [`Flat`](Refusal::Flat), [`Outside`](Refusal::Outside).
-///
 /// ```
 /// use isnemgul::{Refusal, prism};
 /// let around = |x: f64| prism::PLACES.map(|[r, s, t]| [r - x, s - 0.25, t - 0.5]);
 /// assert_eq!(prism::parametric_coord_for_origin(&around(0.25)), Ok([0.25, 0.25, 0.5]));
 /// assert_eq!(prism::parametric_coord_for_origin(&around(2.)), Err(Refusal::Outside));
 /// ```
+///
+/// # Errors
+///
+/// [`Flat`](Refusal::Flat) a step's determinant is zero, [`Outside`](Refusal::Outside) the twenty
+/// steps do not end inside the cell.
 pub fn parametric_coord_for_origin(corners: &Corners) -> Result<Point, Refusal> {
     answer([0.0; 3], |at| isn_prism_parametric_coord_for_origin(corners, at))
 }
@@ -81,6 +90,7 @@ pub fn parametric_coord_for_origin(corners: &Corners) -> Result<Point, Refusal> 
 /// let children = prism::subdivide(&corner, &edge, &[15, 16, 17]);
 /// assert_eq!(children[0], [0, 6, 8, 12, 15, 17]);
 /// ```
+#[must_use]
 pub fn subdivide(corner: &[u32; 6], edge: &[u32; 9], quad: &[u32; 3]) -> [[u32; 6]; 8] {
     always([[0; 6]; 8], |out| isn_prism_subdivide(corner, edge, quad, out))
 }

@@ -10,11 +10,10 @@ const CELL: [u32; 8] = [0, 1, 2, 3, 4, 5, 6, 7];
 
 #[test]
 fn numbers_and_words() {
-    let all: Vec<Refusal> = (1..=13).map(|n| Refusal::from_number(n).unwrap()).collect();
-    assert!(all.iter().zip(1..).all(|(refusal, n)| refusal.number() == n));
-    assert_eq!([0, 14, u32::MAX].map(Refusal::from_number), [None; 3]);
-    assert_eq!(TooFar.to_string(), "refused 6: the image is too far from the probe on some axis");
-    assert!(all.windows(2).all(|two| two[0].to_string() != two[1].to_string()));
+    let all: Vec<Refusal> = (1..).map_while(Refusal::from_number).collect();
+    assert!(all.len() >= 13 && all.iter().zip(1..).all(|(refusal, n)| refusal.number() == n));
+    assert_eq!([0, u32::MAX].map(Refusal::from_number), [None; 2]);
+    assert_eq!(Twice.to_string(), "refused 10: a node stands twice in one cell");
     let _: &dyn std::error::Error = &Flat;
 }
 

@@ -1,0 +1,37 @@
+/* Says what the header and the archive have, for tools/words to compare: the words of every number, and of each size its value and what
+ * the archive answers there and one step off. */
+#include <inttypes.h>
+#include <stdio.h>
+#include "isnemgul.h"
+
+static void word(uint32_t number) {
+    printf("%" PRIu32 " %s\n", number, isn_refusal_text(number));
+}
+
+static void size(const char *name, int value, uint32_t there, uint32_t off) {
+    printf("%s %d %" PRIu32 " %" PRIu32 "\n", name, value, there, off);
+}
+
+/* Lists of zeros do. A missing output is refused too, but only by a list that is within its limit. */
+int main(void) {
+    static const double floats[24 + 2 * ISN_MAX_POINTS + 2];
+    static const isn_proposal proposals[ISN_MAX_PROPOSALS + 1];
+    static const uint32_t zeros[8 * ISN_MAX_CELLS + 8], cell[8] = {0, 1, 2, 3, 4, 5, 6, 7};
+    uint32_t out[ISN_REFINED_NUMBERS], n;
+    int32_t place[3];
+    double volume;
+    for (n = 0; n < 40; n++)
+        word(n);
+    word(UINT32_MAX);
+    size("ISN_MAX_NODES", ISN_MAX_NODES, isn_refine(ISN_MAX_NODES, NULL, 0, NULL, 0, &n), isn_refine(ISN_MAX_NODES + 1, NULL, 0, NULL, 0, &n));
+    size("ISN_MAX_CELLS", ISN_MAX_CELLS, isn_refine(1, zeros, 8 * ISN_MAX_CELLS, NULL, 0, &n),
+         isn_refine(1, zeros, 8 * ISN_MAX_CELLS + 8, NULL, 0, &n));
+    size("ISN_MAX_PROPOSALS", ISN_MAX_PROPOSALS, isn_hex_check_proposals(floats, proposals, ISN_MAX_PROPOSALS, NULL, 0, &n),
+         isn_hex_check_proposals(floats, proposals, ISN_MAX_PROPOSALS + 1, NULL, 0, &n));
+    size("ISN_MAX_DEPTH", ISN_MAX_DEPTH, isn_descendant(zeros, ISN_MAX_DEPTH, 0, place), isn_descendant(zeros, ISN_MAX_DEPTH + 1, 0, place));
+    size("ISN_MAX_POINTS", ISN_MAX_POINTS, isn_hex_volume(floats, floats + 24, 2 * ISN_MAX_POINTS, &volume),
+         isn_hex_volume(floats, floats + 24, 2 * ISN_MAX_POINTS + 2, &volume));
+    size("ISN_REFINED_NUMBERS", ISN_REFINED_NUMBERS, isn_refine(8, cell, 8, out, ISN_REFINED_NUMBERS, &n),
+         isn_refine(8, cell, 8, out, ISN_REFINED_NUMBERS - 1, &n));
+    return 0;
+}
