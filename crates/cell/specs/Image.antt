@@ -1,7 +1,8 @@
 -- What a cell of n corners makes of its corners: the image of a place and its slope. Definitions only.
 use Prim.Native.Nat.{ℕ, zero, suc, _+_, _*_}
-use mathlib.Core.List.{List}
+use mathlib.Core.List.{List, [], _∷_}
 use lib.Ieee.{Float}
+use lib.ListN.{getD}
 use Rattle.numbers.specs.Rule.{tabulate, grid, foldTo}
 use Rattle.binary64.specs.Binary64.{_⊕_, _⊗_, _!_, f0}
 
@@ -28,3 +29,7 @@ jacobianOn n p slopes i j = foldTo (λ (a x : Float). a ⊕ x) f0 n (λ (k : ℕ
 -- row by row
 abbrev pub jacobian : ℕ → List Float → List Float → List Float
 jacobian n p slopes = grid 3 3 (jacobianOn n p slopes)
+
+-- three rows of three floats, one behind another
+abbrev pub rowByRow : List Float → List Float → List Float → List Float
+rowByRow x y z = grid 3 3 (λ (i j : ℕ). getD (x ∷ y ∷ z ∷ []) i [] ! j)

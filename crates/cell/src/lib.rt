@@ -1,6 +1,7 @@
-// What the two cells share: a point, the answers of a locator and of a volume, and one Newton step.
+// What the two cells share: a point, the answers of a locator and of a volume, the rows of a matrix, and one Newton step.
 use mat3_inverse::Inverse;
 ghost use mathlib.Core.Path.{_≡_};
+ghost use Rattle.cell.specs.Image.{rowByRow};
 ghost use Rattle.cell.specs.Newton.{coords, lessBy, stepFrom, stepTold};
 
 // A place in a cell, or a point in space.
@@ -38,6 +39,13 @@ fn moved(at: Point, by: [f64; 3]) -> Point
         y: at.y - by[1],
         z: at.z - by[2],
     }
+}
+
+// Three rows of three floats, one behind another.
+pub fn rows(x: [f64; 3], y: [f64; 3], z: [f64; 3]) -> [f64; 9]
+    ensures { λ r. ⌜ r ≡ rowByRow x y z ⌝ }
+{
+    [x[0], x[1], x[2], y[0], y[1], y[2], z[0], z[1], z[2]]
 }
 
 // One Newton step from a place with this image and this Jacobian, row by row.

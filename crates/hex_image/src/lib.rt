@@ -2,7 +2,8 @@
 ghost use mathlib.Core.Path.{_≡_};
 ghost use Prim.Native.Nat.{_<_};
 ghost use Rattle.numbers.specs.Rule.{tabulate};
-ghost use Rattle.cell.specs.Image.{imageOn, jacobianOn, jacobian};
+ghost use Rattle.binary64.specs.Binary64.{_⊗_, _!_};
+ghost use Rattle.cell.specs.Image.{corner, imageOn, jacobianOn, jacobian};
 ghost use Rattle.hex_image.specs.Image.{imageAt, jacobianAt};
 
 // Entry (idim, jdim) of the Jacobian, from the slopes.
@@ -41,7 +42,7 @@ pub fn dxdr_from_dndr(p: [f64; 24], dndr: [f64; 24]) -> [f64; 9]
     let x = dxdr_row(&p, dndr, 0);
     let y = dxdr_row(&p, dndr, 1);
     let z = dxdr_row(&p, dndr, 2);
-    [x[0], x[1], x[2], y[0], y[1], y[2], z[0], z[1], z[2]]
+    cell::rows(x, y, z)
 }
 
 pub fn dxdr(p: [f64; 24], pco: [f64; 3]) -> [f64; 9]
@@ -51,7 +52,7 @@ pub fn dxdr(p: [f64; 24], pco: [f64; 3]) -> [f64; 9]
     let x = dxdr_row(&p, dndr, 0);
     let y = dxdr_row(&p, dndr, 1);
     let z = dxdr_row(&p, dndr, 2);
-    [x[0], x[1], x[2], y[0], y[1], y[2], z[0], z[1], z[2]]
+    cell::rows(x, y, z)
 }
 
 // The same of corners that are lent, into a lent output: row by row, with no other caller than the C face.
@@ -68,19 +69,27 @@ pub fn dxdr_into(p: &[f64; 24], pco: [f64; 3], dxdr: &mut [f64; 9])
     }
 }
 
+// Corner inode's part of axis idim of the image, from the shape values.
+fn image_term(an: [f64; 8], p: [f64; 24], inode: usize, idim: usize) -> f64
+    requires { ⌜ (inode < 8) × (idim < 3) ⌝ }
+    ensures { λ r. ⌜ r ≡ an ! inode ⊗ corner p inode idim ⌝ }
+{
+    an[inode] * p[3 * inode + idim]
+}
+
 // Axis idim of the image, from the shape values.
 fn image_entry(an: [f64; 8], p: [f64; 24], idim: usize) -> f64
     requires { ⌜ idim < 3 ⌝ }
     ensures { λ r. ⌜ r ≡ imageOn 8 an p idim ⌝ }
 {
-    an[0] * p[0 + idim]
-        + an[1] * p[3 + idim]
-        + an[2] * p[6 + idim]
-        + an[3] * p[9 + idim]
-        + an[4] * p[12 + idim]
-        + an[5] * p[15 + idim]
-        + an[6] * p[18 + idim]
-        + an[7] * p[21 + idim]
+    image_term(an, p, 0, idim)
+        + image_term(an, p, 1, idim)
+        + image_term(an, p, 2, idim)
+        + image_term(an, p, 3, idim)
+        + image_term(an, p, 4, idim)
+        + image_term(an, p, 5, idim)
+        + image_term(an, p, 6, idim)
+        + image_term(an, p, 7, idim)
 }
 
 // The image of a place.

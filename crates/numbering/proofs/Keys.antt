@@ -112,58 +112,96 @@ keys-tell ps qs l hp hq = (
       (λ z. rising-members ps z ∙ members ps qs h z ∙ sym (rising-members qs z)))),
 )
 
--- the smaller and the larger of two are the two, in one order or the other
-in-order : {A : Type 0} (a b : ℕ) → (min a b ≡ a → max a b ≡ b → A) → (min a b ≡ b → max a b ≡ a → A) → A
+-- insertion into two and into three numbers in order
+into-one : (c d : ℕ) → insert c (d ∷ []) ≡ min c d ∷ max c d ∷ []
+into-one c d =
+    cases (ltb c d)
+    (λ t. let less = ltb-true c d t in let low : min c d ≡ c = omega arith in let high : max c d ≡ d = omega arith in rw (t, low, high))
+    (λ f. let most = ltb-false c d f in let low : min c d ≡ d = omega arith in let high : max c d ≡ c = omega arith in rw (f, low, high))
+
+into-two : (b r s : ℕ) → r ≤ s → insert b (r ∷ s ∷ []) ≡ min b r ∷ min (max b r) s ∷ max b s ∷ []
+into-two b r s order =
+    cases (ltb b r)
+    (λ t.
+    let less = ltb-true b r t in
+    let first : min b r ≡ b = omega arith in
+    let next : min (max b r) s ≡ r = omega arith in
+    let last : max b s ≡ s = omega arith in
+    rw (t, first, next, last))
+    (λ f.
+    let most = ltb-false b r f in
+    let first : min b r ≡ r = omega arith in
+    let next : min (max b r) s ≡ min b s = omega arith in
+    rw (f, first, next, into-one b s))
+
+into-three : (a x y z : ℕ) → x ≤ y → y ≤ z → insert a (x ∷ y ∷ z ∷ []) ≡ min a x ∷ min (max a x) y ∷ min (max a y) z ∷ max a z ∷ []
+into-three a x y z low high =
+    cases (ltb a x)
+    (λ t.
+    let less = ltb-true a x t in
+    let first : min a x ≡ a = omega arith in
+    let second : min (max a x) y ≡ x = omega arith in
+    let third : min (max a y) z ≡ y = omega arith in
+    let last : max a z ≡ z = omega arith in
+    rw (t, first, second, third, last))
+    (λ f.
+    let most = ltb-false a x f in
+    let first : min a x ≡ x = omega arith in
+    let second : min (max a x) y ≡ min a y = omega arith in
+    rw (f, first, second, into-two a y z high))
+
+-- two numbers are in one order or the other
+in-order : {A : Type 0} (a b : ℕ) → (a ≤ b → min a b ≡ a → max a b ≡ b → A) → (b ≤ a → min a b ≡ b → max a b ≡ a → A) → A
 in-order a b f g =
     cases (ltb a b)
-    (λ t. let less = ltb-true a b t in f (omega arith) (omega arith))
-    (λ t. let most = ltb-false a b t in g (omega arith) (omega arith))
+    (λ t. let less = ltb-true a b t in f (omega arith) (omega arith) (omega arith))
+    (λ t. let most = ltb-false a b t in g (omega arith) (omega arith) (omega arith))
 
-exchange : (a b z : ℕ) (t : Bool) → (eqb (min a b) z || (eqb (max a b) z || t)) ≡ (eqb a z || (eqb b z || t))
-exchange a b z t = in-order a b (λ low high. rw (low, high)) (λ low high. rw (low, high) (or-swap (eqb b z) (eqb a z) t))
+min-assoc : (a b r : ℕ) → min a (min b r) ≡ min (min a b) r
+min-assoc a b r = omega arith
 
--- what holds of two numbers holds of the smaller and of the larger
-picked : (P : ℕ → Type 0) (a b : ℕ) → P a → P b → P (min a b) × P (max a b)
-picked P a b pa pb = in-order a b (λ low high. rw (low, high) (pa, pb)) (λ low high. rw (low, high) (pb, pa))
+max-assoc : (a b s : ℕ) → max a (max b s) ≡ max (max a b) s
+max-assoc a b s = omega arith
 
-differ : (p : ℕ) (ps : List ℕ) → T (apart (p ∷ ps)) → (q : ℕ) → among eqb ps q ≡ true → p ≡ q → ⊥
-differ p ps d q m e =
-    T-not (among eqb ps p) (first (not (among eqb ps p)) (apart ps) d) (rw e (passes (among eqb ps q) m))
+-- The second and the third of four numbers of which r, s are in order: what insertion gives is what the exchanges give, in each order of a, b and of b, r.
+module _ (a b r s : ℕ) (order : r ≤ s) where
+  second-abr : a ≤ b → b ≤ r → min (max a b) (min r s) ≡ min (max a r) (min b s)
+  second-abr ab br = let right : min (max a r) (min b s) ≡ b = omega arith in rw right (omega arith)
 
-rises-more : (x y : ℕ) (ys : List ℕ) → x < y → Rises (y ∷ ys) → Rises (x ∷ y ∷ ys)
-rises-more x y ys less r = (
-  (λ z m. cases (eqb y z) (λ e. let q = eqb-true y z e in omega arith) (λ f. let q = r .0 z (rw f at m) in omega arith)),
-  r,
-)
+  second-bar : b ≤ a → b ≤ r → min (max a b) (min r s) ≡ min r (min a s)
+  second-bar ba br = omega arith
 
-two-differ : (x y : ℕ) → (x ≡ y → ⊥) → min x y < max x y
-two-differ x y h = omega arith
+  second-rba : r ≤ b → b ≤ a → min (max a r) (min b s) ≡ min b (min a s)
+  second-rba rb ba = omega arith
 
-smaller : (p q r s : ℕ) → p < q → r < s → min p r < min q s
-smaller p q r s h k = omega arith
+  second-alike : min (max a (min b r)) (min (max b r) s) ≡ min (max (min a b) r) (min (max a b) s)
+  second-alike =
+      in-order a b
+      (λ ab low high. rw (low, high) (in-order b r (λ br first last. rw (first, last) (second-abr ab br)) (λ rb first last. rw (first, last))))
+      (λ ba low high. rw (low, high) (in-order b r (λ br first last. rw (first, last) (second-bar ba br)) (λ rb first last. rw (first, last) (second-rba rb ba))))
 
-larger : (p q r s : ℕ) → p < q → r < s → max p r < max q s
-larger p q r s h k = omega arith
+  third-abr : a ≤ b → b ≤ r → min (max a (min r s)) (max b s) ≡ max (max a r) (min b s)
+  third-abr ab br = let left : min r s ≡ r = omega arith in let right : max b s ≡ s = omega arith in rw (left, right) (omega arith)
 
-between : (p q r s : ℕ) → p < q → r < s → (p ≡ s → ⊥) → (r ≡ q → ⊥) → max p r ≡ min q s → ⊥
-between p q r s h k ps rq e = omega arith
+  third-arb : a ≤ b → r ≤ b → min (max a (min b s)) (max b s) ≡ max (max a r) (min b s)
+  third-arb ab rb = let right : max (max a r) (min b s) ≡ max a (min b s) = omega arith in rw right (omega arith)
 
-middle : (f m k l : ℕ) → f < m → f < k → m < l → k < l → (m ≡ k → ⊥) → Rises (f ∷ min m k ∷ max m k ∷ l ∷ [])
-middle f m k l fm fk ml kl mk =
-    let inner = two-differ m k mk in
-    let below : f < min m k = omega arith in
-    let above : max m k < l = omega arith in
-    rises-more f (min m k) (max m k ∷ l ∷ []) below
-    (rises-more (min m k) (max m k) (l ∷ []) inner (rises-more (max m k) l [] above ((λ z h. never (sym h)), tt)))
+  third-bar : b ≤ a → b ≤ r → min (max a (min r s)) (max b s) ≡ max r (min a s)
+  third-bar ba br = let left : min r s ≡ r = omega arith in let right : max b s ≡ s = omega arith in rw (left, right) (omega arith)
 
-merged : (p q r s : ℕ) → p < q → r < s → (p ≡ r → ⊥) → (p ≡ s → ⊥) → (r ≡ q → ⊥) → (q ≡ s → ⊥) →
-    Rises (min p r ∷ min (max p r) (min q s) ∷ max (max p r) (min q s) ∷ max q s ∷ [])
-merged p q r s h k pr ps rq qs =
-    middle (min p r) (max p r) (min q s) (max q s)
-    (two-differ p r pr) (smaller p q r s h k) (larger p q r s h k) (two-differ q s qs) (between p q r s h k ps rq)
+  third-rba : b ≤ a → r ≤ b → min (max a (min b s)) (max b s) ≡ max b (min a s)
+  third-rba ba rb = let left : max a (min b s) ≡ a = omega arith in rw left (omega arith)
 
-itself : (x : ℕ) → eqb x x ≡ true
-itself x = eq-eqb x x refl
+  third-alike : min (max a (min (max b r) s)) (max b s) ≡ max (max (min a b) r) (min (max a b) s)
+  third-alike =
+      in-order a b
+      (λ ab low high. rw (low, high) (in-order b r (λ br first last. rw last (third-abr ab br)) (λ rb first last. rw last (third-arb ab rb))))
+      (λ ba low high. rw (low, high) (in-order b r (λ br first last. rw last (third-bar ba br)) (λ rb first last. rw last (third-rba ba rb))))
+
+  four-alike :
+      min a (min b r) ∷ min (max a (min b r)) (min (max b r) s) ∷ min (max a (min (max b r) s)) (max b s) ∷ max a (max b s) ∷ []
+      ≡ min (min a b) r ∷ min (max (min a b) r) (min (max a b) s) ∷ max (max (min a b) r) (min (max a b) s) ∷ max (max a b) s ∷ []
+  four-alike = rw (min-assoc a b r, second-alike, third-alike, max-assoc a b s)
 
 -- Four numbers are put in rising order by five exchanges: within the first two, within the last two, the two smaller, the two larger, the two in the middle.
 module _ (a b c d : ℕ) where
@@ -175,34 +213,15 @@ module _ (a b c d : ℕ) where
       ∷ max (max a b) (max c d)
       ∷ []
 
-  exchanged-members : (z : ℕ) → among eqb exchanged z ≡ among eqb (a ∷ b ∷ c ∷ d ∷ []) z
-  exchanged-members z =
-      let p = min a b in
-      let q = max a b in
+  pub exchanged-rising : rising (a ∷ b ∷ c ∷ d ∷ []) ≡ exchanged
+  exchanged-rising =
       let r = min c d in
       let s = max c d in
-      ap (λ (t : Bool). eqb (min p r) z || t) (exchange (max p r) (min q s) z (eqb (max q s) z || false))
-      ∙ exchange p r z (eqb (min q s) z || (eqb (max q s) z || false))
-      ∙ ap (λ (t : Bool). eqb p z || (eqb r z || t)) (exchange q s z false)
-      ∙ ap (λ (t : Bool). eqb p z || t) (or-swap (eqb r z) (eqb q z) (eqb s z || false))
-      ∙ exchange a b z (eqb r z || (eqb s z || false))
-      ∙ ap (λ (t : Bool). eqb a z || (eqb b z || t)) (exchange c d z false)
-
-  pub exchanged-rising : T (apart (a ∷ b ∷ c ∷ d ∷ [])) → exchanged ≡ rising (a ∷ b ∷ c ∷ d ∷ [])
-  exchanged-rising t =
-      let u = second (not (among eqb (b ∷ c ∷ d ∷ []) a)) (apart (b ∷ c ∷ d ∷ [])) t in
-      let v = second (not (among eqb (c ∷ d ∷ []) b)) (apart (c ∷ d ∷ [])) u in
-      let not-a = differ a (b ∷ c ∷ d ∷ []) t in
-      let from-a = picked (λ (y : ℕ). a ≡ y → ⊥) c d (not-a c (simp (itself, or-true))) (not-a d (simp (itself, or-true))) in
-      let from-b = picked (λ (y : ℕ). b ≡ y → ⊥) c d (differ b (c ∷ d ∷ []) u c (simp itself)) (differ b (c ∷ d ∷ []) u d (simp (itself, or-true))) in
-      let to-low = picked (λ (x : ℕ). x ≡ min c d → ⊥) a b (from-a .0) (from-b .0) in
-      let to-high = picked (λ (x : ℕ). x ≡ max c d → ⊥) a b (from-a .1) (from-b .1) in
-      only-one exchanged (rising (a ∷ b ∷ c ∷ d ∷ []))
-      (merged (min a b) (max a b) (min c d) (max c d)
-      (two-differ a b (not-a b (simp itself))) (two-differ c d (differ c (d ∷ []) v d (simp itself)))
-      (to-low .0) (to-high .0) (λ e. to-low .1 (sym e)) (to-high .1))
-      (rising-rises (a ∷ b ∷ c ∷ d ∷ []) t)
-      (λ z. exchanged-members z ∙ sym (rising-members (a ∷ b ∷ c ∷ d ∷ []) z))
+      let x = min b r in
+      let y = min (max b r) s in
+      let z = max b s in
+      let three = ap (insert b) (into-one c d) ∙ into-two b r s (omega arith) in
+      ap (insert a) three ∙ into-three a x y z (omega arith) (omega arith) ∙ four-alike a b r s (omega arith)
 
 -- the keys of two and of four numbers
 pub pair-key : (a b : ℕ) → min a b + 1024 * max a b ≡ key (a ∷ b ∷ [])
@@ -212,6 +231,6 @@ pair-key a b =
     (λ t. let less = ltb-true a b t in rw t (omega arith))
     (λ f. let most = ltb-false a b f in rw f (omega arith))
 
-pub four-key : (a b c d : ℕ) → T (apart (a ∷ b ∷ c ∷ d ∷ [])) → packed (exchanged a b c d) ≡ key (a ∷ b ∷ c ∷ d ∷ [])
+pub four-key : (a b c d : ℕ) → packed (exchanged a b c d) ≡ key (a ∷ b ∷ c ∷ d ∷ [])
 unfolding key
-four-key a b c d t = ap packed (exchanged-rising a b c d t)
+four-key a b c d = ap packed (sym (exchanged-rising a b c d))

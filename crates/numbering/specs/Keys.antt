@@ -2,10 +2,11 @@
 use Prim.Native.Nat.{ℕ, _+_, _*_, _/_, _%_, _<_}
 use mathlib.Core.Path.{_≡_}
 use mathlib.Core.Bool.{Bool, true, _&&_, not, cond}
-use mathlib.Core.List.{List, [], _∷_}
+use mathlib.Core.List.{List, [], _∷_, _++_}
 use mathlib.Core.Logic.{_↔_}
 use lib.Dec.{T, eqb, ltb}
-use lib.ListN.{length}
+use lib.ListN.{length, drop, replicate}
+use Rattle.numbers.specs.Rule.{tabulate}
 use Rattle.numbering.specs.FirstMet.{among}
 use Rattle.numbering.specs.Refinement.{sameNodes, edgeNodes, faceNodes}
 
@@ -31,6 +32,10 @@ edgeKey cells j = key (edgeNodes cells (j / 12) (j % 12))
 
 abbrev pub faceKey : List ℕ → ℕ → ℕ
 faceKey cells j = key (faceNodes cells (j / 6) (j % 6))
+
+-- the first m keys, in a list of this many numbers; 0 stands behind them
+abbrev pub keysIn : ℕ → ℕ → (ℕ → ℕ) → List ℕ
+keysIn room m keyAt = tabulate m keyAt ++ drop m (replicate room 0)
 
 -- no number stands twice
 abbrev pub apart : List ℕ → Bool

@@ -2,7 +2,8 @@
 ghost use mathlib.Core.Path.{_≡_};
 ghost use Prim.Native.Nat.{_<_};
 ghost use Rattle.numbers.specs.Rule.{tabulate};
-ghost use Rattle.cell.specs.Image.{imageOn, jacobianOn, jacobian};
+ghost use Rattle.binary64.specs.Binary64.{_⊗_, _!_};
+ghost use Rattle.cell.specs.Image.{corner, imageOn, jacobianOn, jacobian};
 ghost use Rattle.prism_image.specs.Image.{imageAt, jacobianAt};
 
 // Entry (idim, ir) of the Jacobian, from the slopes.
@@ -39,7 +40,7 @@ fn dxdr_from_dndr(p: [f64; 18], dndr: [f64; 18]) -> [f64; 9]
     let x = dxdr_row(&p, dndr, 0);
     let y = dxdr_row(&p, dndr, 1);
     let z = dxdr_row(&p, dndr, 2);
-    [x[0], x[1], x[2], y[0], y[1], y[2], z[0], z[1], z[2]]
+    cell::rows(x, y, z)
 }
 
 pub fn dxdr(p: [f64; 18], pco: [f64; 3]) -> [f64; 9]
@@ -63,17 +64,25 @@ pub fn dxdr_into(p: &[f64; 18], pco: [f64; 3], dxdr: &mut [f64; 9])
     }
 }
 
+// Corner inode's part of axis idim of the image, from the shape values.
+fn image_term(sf: [f64; 6], p: [f64; 18], inode: usize, idim: usize) -> f64
+    requires { ⌜ (inode < 6) × (idim < 3) ⌝ }
+    ensures { λ r. ⌜ r ≡ sf ! inode ⊗ corner p inode idim ⌝ }
+{
+    sf[inode] * p[3 * inode + idim]
+}
+
 // Axis idim of the image, from the shape values.
 fn image_entry(sf: [f64; 6], p: [f64; 18], idim: usize) -> f64
     requires { ⌜ idim < 3 ⌝ }
     ensures { λ r. ⌜ r ≡ imageOn 6 sf p idim ⌝ }
 {
-    sf[0] * p[0 + idim]
-        + sf[1] * p[3 + idim]
-        + sf[2] * p[6 + idim]
-        + sf[3] * p[9 + idim]
-        + sf[4] * p[12 + idim]
-        + sf[5] * p[15 + idim]
+    image_term(sf, p, 0, idim)
+        + image_term(sf, p, 1, idim)
+        + image_term(sf, p, 2, idim)
+        + image_term(sf, p, 3, idim)
+        + image_term(sf, p, 4, idim)
+        + image_term(sf, p, 5, idim)
 }
 
 // The image of a place.

@@ -52,17 +52,18 @@ module _ (n : ℕ) (few : n ≤ 1024) (cells : List ℕ) (sound : (d : ℕ) → 
       let first = by-edges .1 ∙ sym (ap (nextAfter n) (append-nil (thingsTo cells c ++ edgesOf cells c))) in
       faces-numbered _ _ (face-rule n few cells sound c below face-keys face-keyed) (held .of-faces) first
 
-  pub one-more : Standing n cells edges′ faces′ (c + 1) (center + 1)
-      × (childrenOf cells edges′ faces′ c center ≡ childNumbers n cells c)
+  pub one-more : (part : List ℕ) → part ≡ childrenOf cells edges′ faces′ c center →
+      Standing n cells edges′ faces′ (c + 1) (center + 1) × (part ≡ childNumbers n cells c)
   unfolding childrenOf
-  one-more =
+  one-more part written =
       let middle-of = centre-rule n few cells sound c below in (
         record {
           of-edges = rw (row-next 12 c) (by-edges .0);
           of-faces = rw (row-next 6 c) (by-faces .0);
           of-next = ap (λ (k : ℕ). k + 1) (by-faces .1) ∙ sym (middle-of .1);
         },
-        same-children {corner = row 8 cells c} {center = center} refl
+        written
+            ∙ same-children {corner = row 8 cells c} {center = center} refl
             (row-is 12 c edges′ (λ (d e : ℕ). number n cells (edgeOf cells d e)) (by-edges .0))
             (row-is 6 c faces′ (λ (d f : ℕ). number n cells (faceOf cells d f)) (by-faces .0))
             ∙ ap (children (row 8 cells c) (map (number n cells) (edgesOf cells c)) (map (number n cells) (facesOf cells c))) (by-faces .1 ∙ sym (middle-of .0)),

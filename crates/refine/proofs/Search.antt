@@ -6,12 +6,13 @@ use mathlib.Core.Path.{_≡_, sym, ap, _∙_}
 use mathlib.Core.List.{List}
 use borrow.Author.Tests.{eqb-true, eqb-false}
 use lib.Dec.{eqb}
-use lib.ListN.{length, getD, set}
+use lib.ListN.{length, getD, set, List·getD-append}
 use lib.Seq.{getD-set-same, getD-set-other, ext-getD}
 use Rattle.numbers.specs.Rule.{tabulate}
 use Rattle.numbers.proofs.Cases.{cases}
 use Rattle.numbers.proofs.Stored.{length-tabulate}
 use Rattle.numbers.proofs.Tabulate.{tabulate-at}
+use Rattle.numbering.specs.Keys.{keysIn}
 use Rattle.refine.specs.declared.Found.the-variants.{At}
 use Rattle.refine.specs.Search.{Missing, Finds, Rule, Agrees}
 
@@ -28,6 +29,13 @@ agrees-more numbers p q x value one room e old j below =
     cases (eqb j p)
     (λ t. let here = eqb-true j p t in rw here (getD-set-same numbers p x 0 room ∙ e))
     (λ f. let other : j ≡ p → ⊥ = eqb-false j p f in getD-set-other numbers p j x 0 other ∙ old j (omega arith))
+
+-- the keys of a list of at most 1,024 numbers are all there
+pub keys-agree : (keys : List ℕ) (room m n : ℕ) (keyAt : ℕ → ℕ) → m ≡ n → keys ≡ keysIn room m keyAt → Agrees keys n keyAt
+keys-agree keys room m n keyAt all e j below =
+    let within : j < m = omega arith in
+    let inside : j < length (tabulate m keyAt) = rw (length-tabulate m keyAt) within in
+    ap (λ (l : List ℕ). getD l j 0) e ∙ List·getD-append (tabulate m keyAt) _ 0 j inside ∙ tabulate-at m keyAt 0 j within
 
 -- numbers that agree with a rule are the list by that rule
 pub agrees-all : (numbers : List ℕ) (m : ℕ) (value : ℕ → ℕ) → length numbers ≡ m → Agrees numbers m value → numbers ≡ tabulate m value

@@ -2,12 +2,9 @@
 use Prim.Native.Nat.{ℕ, _+_, _*_, _<_}
 use mathlib.Core.Path.{_≡_}
 use mathlib.Core.List.{List}
-use lib.Dec.{T}
 use lib.ListN.{getD}
 use Rattle.numbers.specs.Rule.{tabulate}
 use Rattle.hex_children.specs.Children.{children}
-use Rattle.numbering.specs.Refinement.{cellCount, faceNodes}
-use Rattle.numbering.specs.Keys.{apart}
 use Rattle.refine.specs.declared.Found.{Found}
 use Rattle.refine.specs.declared.Found.the-variants.{At, Nothing}
 
@@ -34,10 +31,6 @@ Agrees numbers m value = (j : ℕ) → j < m → getD numbers j 0 ≡ value j
 abbrev pub Numbers : List ℕ → List ℕ → List ℕ → ℕ → ℕ → ℕ → ℕ → Type 0
 Numbers keys old new m w first after =
     (value before : ℕ → ℕ) → Rule keys m w value before → Agrees old m value → first ≡ before 0 → Agrees new (m + w) value × (after ≡ before w)
-
--- the nodes of every face differ
-abbrev pub FacesDiffer : List ℕ → Type 0
-FacesDiffer cells = (c f : ℕ) → c < cellCount cells → f < 6 → T (apart (faceNodes cells c f))
 
 -- the w numbers of a cell in a list of w a cell
 abbrev pub row : ℕ → List ℕ → ℕ → List ℕ

@@ -1,19 +1,14 @@
 // A mesh refined: each cell is cut in eight, and what cells share gets one number.
-// An edge or a face is kept as a key, one number made of its nodes in rising order, so that one search serves both and compares one number.
+// An edge or a face is kept as its key, so that one search serves both and compares one number.
 ghost use mathlib.Core.Path.{_≡_};
-ghost use mathlib.Core.List.{[], _∷_};
-ghost use Prim.Native.Nat.{_+_, _*_, _^_, _<_, _≤_, min, max};
-ghost use lib.Dec.{T};
+ghost use Prim.Native.Nat.{_+_, _*_, _^_, _<_, _≤_};
 ghost use lib.ListN.{length, getD};
 ghost use Rattle.numbers.specs.Rule.{tabulate};
 ghost use Rattle.binary64.specs.Answer.{answered, left};
-ghost use Rattle.cell.specs.Edges.{end};
-ghost use Rattle.cell.specs.Faults.{node, firstFault};
-ghost use Rattle.hex.specs.Cube.{edges, idx2node};
-ghost use Rattle.numbering.specs.Refinement.{cellCount, edgeNodes, faceNodes, next};
-ghost use Rattle.numbering.specs.Keys.{packed, key, edgeKey, faceKey, apart};
+ghost use Rattle.cell.specs.Faults.{firstFault};
+ghost use Rattle.numbering.specs.Refinement.{cellCount, next};
 ghost use Rattle.refine.specs.Refine.{refined, allChildren, childrenIn, told};
-ghost use Rattle.refine.specs.Search.{Finds, Numbers, Agrees, FacesDiffer, childrenOf};
+ghost use Rattle.refine.specs.Search.{Finds, Numbers, childrenOf};
 
 // The next free number, or a refusal's number.
 pub enum Refined {
@@ -69,95 +64,6 @@ fn number(keys: &[u64], numbers: &mut [u32], width: usize, cell: usize, first: u
     next
 }
 
-fn low(a: u32, b: u32) -> u32
-    ensures { λ r. ⌜ r ≡ min a b ⌝ }
-{
-    if a < b { a } else { b }
-}
-
-fn high(a: u32, b: u32) -> u32
-    ensures { λ r. ⌜ r ≡ max a b ⌝ }
-{
-    if a < b { b } else { a }
-}
-
-// Four numbers as the digits of one, base 1,024.
-fn digits(a: u32, b: u32, c: u32, d: u32) -> u64
-    ensures { λ r. ⌜ r ≡ packed (a ∷ b ∷ c ∷ d ∷ []) ⌝ }
-{
-    a as u64 + 1024 * (b as u64 + 1024 * (c as u64 + 1024 * (d as u64)))
-}
-
-// End s of edge e of cell c.
-fn edge_node(cells: &[u32], c: usize, e: usize, s: usize) -> u32
-    requires { ⌜ (8 * c + 8 ≤ length (now cells)) × (e < 12) × (s < 2) ⌝ }
-    ensures { λ r. ⌜ r ≡ node 8 (now (cells .entry)) c (end edges e s) ⌝ }
-{
-    cells[8 * c + hex::EDGE2NODE[e][s]]
-}
-
-// Node s of face f of cell c.
-fn face_node(cells: &[u32], c: usize, f: usize, s: usize) -> u32
-    requires { ⌜ (8 * c + 8 ≤ length (now cells)) × (f < 6) × (s < 4) ⌝ }
-    ensures { λ r. ⌜ r ≡ node 8 (now (cells .entry)) c (getD idx2node (4 * f + s) 0) ⌝ }
-{
-    cells[8 * c + hex::IDX2NODE[4 * f + s]]
-}
-
-// The ends of an edge in rising order, as the digits of one number.
-fn edge_key(cells: &[u32], c: usize, e: usize) -> u64
-    requires { ⌜ (8 * c + 8 ≤ length (now cells)) × (e < 12) ⌝ }
-    ensures { λ r. ⌜ r ≡ key (edgeNodes (now (cells .entry)) c e) ⌝ }
-{
-    let a = edge_node(cells, c, e, 0);
-    let b = edge_node(cells, c, e, 1);
-    low(a, b) as u64 + 1024 * (high(a, b) as u64)
-}
-
-// The nodes of a face in rising order, as the digits of one number.
-fn face_key(cells: &[u32], c: usize, f: usize) -> u64
-    requires { ⌜ (8 * c + 8 ≤ length (now cells)) × (f < 6) × T (apart (faceNodes (now cells) c f)) ⌝ }
-    ensures { λ r. ⌜ r ≡ key (faceNodes (now (cells .entry)) c f) ⌝ }
-{
-    let a = face_node(cells, c, f, 0);
-    let b = face_node(cells, c, f, 1);
-    let d = face_node(cells, c, f, 2);
-    let e = face_node(cells, c, f, 3);
-    let p = low(a, b);
-    let q = high(a, b);
-    let r = low(d, e);
-    let s = high(d, e);
-    let m = high(p, r);
-    let k = low(q, s);
-    digits(low(p, r), low(m, k), high(m, k), high(q, s))
-}
-
-// The keys of the edges, twelve a cell.
-fn edge_keys(cells: &[u32]) -> [u64; 1536]
-    requires { ⌜ length (now cells) ≤ 1024 ⌝ }
-    ensures { λ r. ⌜ Agrees r (12 * cellCount (now (cells .entry))) (edgeKey (now (cells .entry))) ⌝ }
-{
-    let mut keys = [0u64; 1536];
-    let count = 12 * (cells.len() / 8);
-    for j in 0..count {
-        keys[j] = edge_key(cells, j / 12, j % 12);
-    }
-    keys
-}
-
-// The keys of the faces, six a cell.
-fn face_keys(cells: &[u32]) -> [u64; 768]
-    requires { ⌜ (length (now cells) ≤ 1024) × FacesDiffer (now cells) ⌝ }
-    ensures { λ r. ⌜ Agrees r (6 * cellCount (now (cells .entry))) (faceKey (now (cells .entry))) ⌝ }
-{
-    let mut keys = [0u64; 768];
-    let count = 6 * (cells.len() / 8);
-    for j in 0..count {
-        keys[j] = face_key(cells, j / 6, j % 6);
-    }
-    keys
-}
-
 // Copies what stands in a list from `from` on, as much as there is room for.
 fn copy_row(list: &[u32], from: usize, row: &mut [u32])
     requires { ⌜ from + length (now row) ≤ length (now list) ⌝ }
@@ -199,8 +105,8 @@ fn refine_cells(n: u32, cells: &[u32], out: &mut [u32]) -> u32
     ensures free { λ r. ⌜ r ≡ next n (now (cells .entry)) ⌝ }
     ensures output { λ _. ⌜ now (out .exit) ≡ left (answered (allChildren n (now (cells .entry)))) (now (out .entry)) ⌝ }
 {
-    let edge_keys = edge_keys(cells);
-    let face_keys = face_keys(cells);
+    let edge_keys = keys::edge_keys(cells);
+    let face_keys = keys::face_keys(cells);
     let mut edges = [0u32; 1536];
     let mut faces = [0u32; 768];
     let mut free = n;

@@ -7,9 +7,10 @@ use Rattle.hex_image.proofs.dxdr.Tie as tie
 returns : tie.Need-returns
 unfolding jacobianAt
 returns c =
-    let second = c .before .before in
+    let third = c .before in
+    let second = third .before .before in
     let first = second .before .before in
-    simp (c .dxdr-row3 .ensures, second .dxdr-row2 .ensures, first .dxdr-row .ensures, first .before .before .dndr .ensures)
+    simp (c .rows .ensures, third .dxdr-row3 .ensures, second .dxdr-row2 .ensures, first .dxdr-row .ensures, first .before .before .dndr .ensures)
 
 pub dxdr-spec : {M : Type 1} → statement M
 dxdr-spec =
@@ -19,13 +20,5 @@ dxdr-spec =
     (λ c κs. search needs)
     (λ c κs. search needs)
     (λ c κs. search needs)
-    (λ c. search needs)
-    (λ c. search needs)
-    (λ c. search needs)
-    (λ c. search needs)
-    (λ c. search needs)
-    (λ c. search needs)
-    (λ c. search needs)
-    (λ c. search needs)
-    (λ c. search needs)
+    (λ c κs. search needs)
     returns)

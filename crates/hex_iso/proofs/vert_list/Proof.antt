@@ -39,24 +39,34 @@ by-the-mask center half-width value e0 e mask below =
     simp is-cut
 
 abbrev Inv-loop : tie.InvT-loop
-Inv-loop center half-width e0 vertlist₀ value edge2node hex-sign i₀ vertlist i =
+Inv-loop center half-width value e0 vertlist₀ edge2node hex-sign i₀ vertlist i =
     (i ≤ 12) × (vertlist ≡ fillRows (edgeOn center half-width value) 3 i vertlist₀)
 
 abbrev μ-loop : tie.MeasureT-loop
-μ-loop center half-width e0 vertlist₀ value edge2node hex-sign i₀ vertlist i = 12 - i
+μ-loop center half-width value e0 vertlist₀ edge2node hex-sign i₀ vertlist i = 12 - i
 
 loop-holds : tie.Need-loop-holds Inv-loop μ-loop
 unfolding fillRows
 loop-holds c = (search needs, refl)
 
+edge-vert-requires : tie.Need-edge-vert-requires Inv-loop μ-loop
+edge-vert-requires c κs =
+    let turn = c .before .before .before in
+    let table = turn .before .before .before in
+    let below : turn .loop .i-edge < 12 = omega arith in
+    (below, rw (table .edge2node .ensures) (first-end _ below), rw (table .edge2node .ensures) (second-end _ below))
+
 loop-again : tie.Need-loop-again Inv-loop μ-loop
 unfolding fillRow fillRows
 loop-again c =
-    let head = c .before .before .before .before .before .before in
-    let start = head .before .before in
+    let held = c .before .before in
+    let turn = held .before .before .before .before in
+    let signs = turn .before .before in
+    let start = signs .before .before in
     let at = start .args in
-    let row = c .vert .ensures ∙ by-the-mask (at .center) (at .half-width) (at .t3) (at .e0) (head .loop .i-edge) (start .pre) (search needs) in
-    (search needs, simp (row, head .loop .inv .1, add-one))
+    let row = simp (signs .hex-sign .ensures, signs .before .edge2node .ensures) at (held .edge-vert .ensures)
+    ∙ by-the-mask (at .center) (at .half-width) (at .corner-value) (at .e0) (turn .loop .i-edge) (start .pre) (omega arith) in
+    (search needs, simp (c .put-vert .ensures, row, turn .loop .inv .1, add-one))
 
 returns : tie.Need-returns Inv-loop μ-loop
 unfolding fillRow fillRows
@@ -70,6 +80,8 @@ vert-list-spec =
     (tie.spec
     Inv-loop
     μ-loop
+    (λ c κs. search needs)
+    (λ c κs. search needs)
     loop-holds
     (λ c. search needs)
     (λ c. search needs)
@@ -77,30 +89,8 @@ vert-list-spec =
     (λ c. search needs)
     (λ c. search needs)
     (λ c. search needs)
-    (λ c. search (needs, first-end))
-    (λ c. search (needs, first-end))
-    (λ c. search (needs, second-end))
-    (λ c. search (needs, second-end))
-    (λ c. search (needs, first-end))
-    (λ c. search (needs, first-end))
-    (λ c. search (needs, second-end))
-    (λ c. search (needs, second-end))
+    edge-vert-requires
     (λ c κs. search needs)
-    (λ c. search needs)
-    (λ c. search needs)
-    (λ c. search needs)
-    (λ c. search needs)
-    (λ c. search needs)
-    (λ c. search needs)
-    (λ c. search needs)
-    (λ c. search needs)
-    (λ c. search needs)
-    (λ c. search needs)
-    (λ c. search needs)
-    (λ c. search needs)
-    (λ c. search needs)
-    (λ c. search needs)
-    (λ c. search needs)
     (λ c. search needs)
     (λ c. search needs)
     loop-again

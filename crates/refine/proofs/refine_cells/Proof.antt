@@ -1,15 +1,16 @@
 -- `refine::refine_cells` meets its contract: before each cell the numbers held are those of the numbering, and the output has the
 -- children of the cells passed. Assumes nothing.
-use Prim.Native.Nat.{_+_, _*_, _-_, _≤_}
+use Prim.Native.Nat.{ℕ, _+_, _*_, _-_, _≤_, min}
 use native.Mathlib.Omega.{arith}
-use mathlib.Core.Path.{_≡_, refl, _∙_}
+use mathlib.Core.Path.{_≡_, refl, ap, _∙_}
 use mathlib.Core.List.{_++_}
 use borrow.Author.Needs.{needs}
 use lib.ListN.{length, drop}
 use Rattle.cell.proofs.Faults.{faultless-is-sound}
 use Rattle.numbering.specs.Refinement.{cellCount, chain, given, childNumbers}
-use Rattle.numbering.proofs.Cells.{face-nodes}
+use Rattle.numbering.specs.Keys.{edgeKey, faceKey}
 use Rattle.refine.proofs.Cell.{Standing, stands-first, one-more}
+use Rattle.refine.proofs.Search.{keys-agree}
 use Rattle.refine.proofs.Output.{chain-length, nothing-yet, part-more}
 use Rattle.refine.proofs.refine_cells.Statement.{statement}
 use Rattle.refine.proofs.refine_cells.Tie as tie
@@ -21,13 +22,6 @@ Inv-loop n cells out₀ edge-keys face-keys edges₀ faces₀ next₀ count cell
 
 abbrev μ-loop : tie.MeasureT-loop
 μ-loop n cells out₀ edge-keys face-keys edges₀ faces₀ next₀ count cell₀ out edges faces next cell = count - cell
-
-face-keys-requires : tie.Need-face-keys-requires Inv-loop μ-loop
-face-keys-requires c κs =
-    let start = c .before .before .before in
-    let n = start .args .n in
-    let cells = start .args .cells .now in
-    (start .pre .1, λ d f h l. face-nodes n cells d (faultless-is-sound .sound n 8 cells (start .pre .3) d h) (start .pre .0) f l .differ)
 
 loop-holds : tie.Need-loop-holds Inv-loop μ-loop
 loop-holds c = (search needs, refl, refl, refl, search needs, stands-first _ _ _ _, nothing-yet _ _)
@@ -45,17 +39,21 @@ loop-again c =
     let cell = turn .loop .cell in
     let inv = turn .loop .inv in
     let sound = faultless-is-sound .sound n 8 cells (start .pre .3) in
-    let edge-keyed = keys .before .edge-keys .ensures in
-    let face-keyed = keys .face-keys .ensures in
+    let all : min (cellCount cells) 128 ≡ cellCount cells = omega (arith, start .pre .1) in
+    let edge-keyed = keys-agree _ 1536 _ (12 * cellCount cells) (edgeKey cells) (ap (λ (m : ℕ). 12 * m) all) (keys .before .edge-keys .ensures) in
+    let face-keyed = keys-agree _ 768 _ (6 * cellCount cells) (faceKey cells) (ap (λ (m : ℕ). 6 * m) all) (keys .face-keys .ensures) in
+    let below : cell + 1 ≤ cellCount cells = omega arith in
+    let few : second .number2 .result + 1 ≤ n + 19 * (cell + 1) = omega (arith, first .number .ensures .1, second .number2 .ensures .1) in
+    let wide : 64 * cell + 64 - 64 * cell ≡ 64 = omega arith in
     let more = one-more n (start .pre .0) cells sound cell (omega arith) _ edge-keyed _ face-keyed _ _ _ _ _ _ _ (inv .5) (first .number .ensures .0)
-    (second .number2 .ensures .0) in (
-      omega arith,
+    (second .number2 .ensures .0) _ (wrote .write-children .ensures) in (
+      below,
       first .number .kept .1 .0 ∙ inv .1,
       second .number2 .kept .1 .0 ∙ inv .2,
-      c .before .out .given .1 ∙ inv .3,
-      omega (arith, first .number .ensures .1, second .number2 .ensures .1),
+      rw (c .before .out .given .1) (inv .3),
+      few,
       more .0,
-      part-more (childNumbers n cells) (λ d. refl) cell (64 * cell + 64 - 64 * cell) _ _ _ (omega arith) (wrote .write-children .ensures ∙ more .1) (inv .6),
+      part-more (childNumbers n cells) (λ d. refl) cell (64 * cell + 64 - 64 * cell) _ _ _ wide (more .1) (inv .6),
     )
 
 returns : tie.Need-returns Inv-loop μ-loop
@@ -75,7 +73,7 @@ refine-cells-spec =
     Inv-loop
     μ-loop
     (λ c κs. search needs)
-    face-keys-requires
+    (λ c κs. search needs)
     loop-holds
     (λ c. search needs)
     (λ c. search needs)

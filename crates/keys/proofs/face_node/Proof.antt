@@ -1,10 +1,10 @@
--- `refine::face_node` meets its contract: the table holds corners. Assumes nothing.
+-- `keys::face_node` meets its contract: the table holds corners. Assumes nothing.
 use Prim.Native.Nat.{_+_, _*_}
 use native.Mathlib.Omega.{arith}
 use borrow.Author.Needs.{needs}
 use Rattle.numbering.proofs.Cells.{face-corner}
-use Rattle.refine.proofs.face_node.Statement.{statement}
-use Rattle.refine.proofs.face_node.Tie as tie
+use Rattle.keys.proofs.face_node.Statement.{statement}
+use Rattle.keys.proofs.face_node.Tie as tie
 
 add-result-2 : tie.Need-add-result-2
 add-result-2 c = let corner = face-corner (4 * c .args .f + c .args .s) (omega arith) in omega arith

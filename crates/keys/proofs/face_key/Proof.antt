@@ -1,9 +1,13 @@
--- `refine::face_key` meets its contract: five exchanges put the four nodes in rising order. Assumes nothing.
+-- `keys::face_key` meets its contract: five exchanges put the four nodes in rising order. Assumes nothing.
+use Prim.Native.Nat.{ℕ, _+_, _*_}
 use mathlib.Core.Path.{_∙_}
 use borrow.Author.Needs.{needs}
+use lib.ListN.{getD}
+use Rattle.cell.specs.Faults.{node}
+use Rattle.hex.specs.Cube.{idx2node}
 use Rattle.numbering.proofs.Keys.{four-key}
-use Rattle.refine.proofs.face_key.Statement.{statement}
-use Rattle.refine.proofs.face_key.Tie as tie
+use Rattle.keys.proofs.face_key.Statement.{statement}
+use Rattle.keys.proofs.face_key.Tie as tie
 
 returns : tie.Need-returns
 returns c =
@@ -12,6 +16,8 @@ returns c =
     let middle = low5 .before .before in
     let pairs = middle .before .before in
     let nodes = pairs .before .before .before .before in
+    let at = nodes .before .before .before .before .before .args in
+    let corner : ℕ → ℕ = λ (s : ℕ). node 8 (at .cells .now) (at .c) (getD idx2node (4 * at .f + s) 0) in
     c .digits .ensures
     ∙ simp (
       last .high5 .ensures,
@@ -28,7 +34,7 @@ returns c =
       nodes .before .face-node3 .ensures,
       nodes .before .before .face-node2 .ensures,
       nodes .before .before .before .face-node .ensures,
-    ) (four-key _ _ _ _ (nodes .before .before .before .before .before .pre .2))
+    ) (four-key (corner 0) (corner 1) (corner 2) (corner 3))
 
 pub face-key-spec : {M : Type 1} → statement M
 face-key-spec =

@@ -1,9 +1,9 @@
--- `refine::edge_node` meets its contract: the table holds corners. Assumes nothing.
+-- `keys::edge_node` meets its contract: the table holds corners. Assumes nothing.
 use native.Mathlib.Omega.{arith}
 use borrow.Author.Needs.{needs}
 use Rattle.numbering.proofs.Cells.{edge-corner}
-use Rattle.refine.proofs.edge_node.Statement.{statement}
-use Rattle.refine.proofs.edge_node.Tie as tie
+use Rattle.keys.proofs.edge_node.Statement.{statement}
+use Rattle.keys.proofs.edge_node.Tie as tie
 
 add-result : tie.Need-add-result
 add-result c = let corner = edge-corner (c .before .args .e) (c .before .args .s) (omega arith) (omega arith) in omega arith

@@ -1,0 +1,29 @@
+-- `keys::edge_key` meets its contract: the smaller end is the lower digit. Assumes nothing.
+use borrow.Author.Needs.{needs}
+use Rattle.cell.specs.Edges.{end}
+use Rattle.cell.specs.Faults.{node}
+use Rattle.hex.specs.Cube.{edges}
+use Rattle.numbering.proofs.Keys.{pair-key}
+use Rattle.keys.proofs.edge_key.Statement.{statement}
+use Rattle.keys.proofs.edge_key.Tie as tie
+
+returns : tie.Need-returns
+returns c =
+    let ends = c .before .before in
+    let at = ends .before .before .before .args in
+    rw (c .high .ensures, c .before .low .ensures, ends .edge-node2 .ensures, ends .before .edge-node .ensures)
+    (pair-key (node 8 (at .cells .now) (at .c) (end edges (at .e) 0)) (node 8 (at .cells .now) (at .c) (end edges (at .e) 1)))
+
+pub edge-key-spec : {M : Type 1} → statement M
+edge-key-spec =
+    tie.close
+    (tie.spec
+    (λ c κs. search needs)
+    (λ c κs. search needs)
+    (λ c κs. search needs)
+    (λ c. search needs)
+    (λ c κs. search needs)
+    (λ c. search needs)
+    (λ c. search needs)
+    (λ c. search needs)
+    returns)
