@@ -1,13 +1,12 @@
 // hex.rs: `iso_surface` up to its triangles, where the surface of value zero cuts the twelve edges of a cube.
 ghost use mathlib.Core.Path.{_≡_};
-ghost use mathlib.Core.List.{[]};
 ghost use Prim.Native.Nat.{_+_, _*_, _<_};
-ghost use lib.ListN.{getD, set};
+ghost use lib.ListN.{set};
 ghost use Rattle.numbers.specs.Bits.{bit};
 ghost use Rattle.numbers.specs.Rule.{tabulate, grid};
 ghost use Rattle.binary64.specs.Binary64.{_!_};
 ghost use Rattle.hex_iso_mask.specs.Cut.{signIndex, maskOf};
-ghost use Rattle.hex_iso.specs.Edges.{cutAround, heldOn, edgeOn, isoEdges};
+ghost use Rattle.hex_iso.specs.Edges.{cutAround, heldOn, heldBetween, edgeOn, isoEdges};
 
 // What `iso_surface` makes its triangles of: `cubeindex`, the mask `e0`, and three floats for each of the twelve edges.
 pub struct IsoEdges {
@@ -76,11 +75,12 @@ fn edge_vert(
     i1_node: usize,
     center: [f64; 3],
     half_width: f64,
-    hex_sign: [[f64; 3]; 8],
-    corner_value: [f64; 8],
+    hex_sign: &[[f64; 3]; 8],
+    corner_value: &[f64; 8],
 ) -> [f64; 3]
     requires { ⌜ («i_edge» < 12) × («i0_node» < 8) × («i1_node» < 8) ⌝ }
-    ensures { λ r. ⌜ r ≡ tabulate 3 (heldOn (bit e0 «i_edge») center «half_width» (getD «hex_sign» «i0_node» []) (getD «hex_sign» «i1_node» []) («corner_value» ! «i0_node») («corner_value» ! «i1_node»)) ⌝ }
+    ensures { λ r. ⌜ r ≡ tabulate 3 (heldBetween (bit e0 «i_edge») center «half_width» (now («hex_sign» .entry)) (now («corner_value» .entry))
+        «i0_node» «i1_node») ⌝ }
 {
     vert(
         e0,
@@ -97,7 +97,8 @@ fn edge_vert(
 // Stores what edge i_edge holds.
 fn put_vert(vertlist: &mut [f64; 36], i_edge: usize, p: [f64; 3])
     requires { ⌜ «i_edge» < 12 ⌝ }
-    ensures { λ _. ⌜ now (vertlist .exit) ≡ set (set (set (now (vertlist .entry)) (3 * «i_edge» + 0) (p ! 0)) (3 * «i_edge» + 1) (p ! 1)) (3 * «i_edge» + 2) (p ! 2) ⌝ }
+    ensures { λ _. ⌜ now (vertlist .exit)
+        ≡ set (set (set (now (vertlist .entry)) (3 * «i_edge» + 0) (p ! 0)) (3 * «i_edge» + 1) (p ! 1)) (3 * «i_edge» + 2) (p ! 2) ⌝ }
 {
     vertlist[3 * i_edge + 0] = p[0];
     vertlist[3 * i_edge + 1] = p[1];
@@ -129,8 +130,8 @@ fn vert_list(
             i1_node,
             center,
             half_width,
-            hex_sign,
-            corner_value,
+            &hex_sign,
+            &corner_value,
         );
         put_vert(vertlist, i_edge, p);
     }
