@@ -6,20 +6,31 @@ ghost use Rattle.binary64.specs.Binary64.{_⊗_, _!_};
 ghost use Rattle.cell.specs.Image.{corner, imageOn, jacobianOn, jacobian};
 ghost use Rattle.hex_image.specs.Image.{imageAt, jacobianAt};
 
+// Corner inode's part of entry (idim, jdim) of the Jacobian, from the slopes.
+fn dxdr_term(p: &[f64; 24], dndr: &[f64; 24], inode: usize, idim: usize, jdim: usize) -> f64
+    requires { ⌜ (inode < 8) × (idim < 3) × (jdim < 3) ⌝ }
+    ensures { λ r. ⌜ r ≡ corner (now (p .entry)) inode idim ⊗ corner (now (dndr .entry)) inode jdim ⌝ }
+{
+    p[3 * inode + idim] * dndr[3 * inode + jdim]
+}
+
 // Entry (idim, jdim) of the Jacobian, from the slopes.
 fn dxdr_entry(p: [f64; 24], dndr: [f64; 24], idim: usize, jdim: usize) -> f64
     requires { ⌜ (idim < 3) × (jdim < 3) ⌝ }
     ensures { λ r. ⌜ r ≡ jacobianOn 8 p dndr idim jdim ⌝ }
 {
+    // lent, so that no term copies them
+    let p = &p;
+    let dndr = &dndr;
     let mut dxdr = 0.0;
-    dxdr = dxdr + p[0 + idim] * dndr[0 + jdim];
-    dxdr = dxdr + p[3 + idim] * dndr[3 + jdim];
-    dxdr = dxdr + p[6 + idim] * dndr[6 + jdim];
-    dxdr = dxdr + p[9 + idim] * dndr[9 + jdim];
-    dxdr = dxdr + p[12 + idim] * dndr[12 + jdim];
-    dxdr = dxdr + p[15 + idim] * dndr[15 + jdim];
-    dxdr = dxdr + p[18 + idim] * dndr[18 + jdim];
-    dxdr = dxdr + p[21 + idim] * dndr[21 + jdim];
+    dxdr = dxdr + dxdr_term(p, dndr, 0, idim, jdim);
+    dxdr = dxdr + dxdr_term(p, dndr, 1, idim, jdim);
+    dxdr = dxdr + dxdr_term(p, dndr, 2, idim, jdim);
+    dxdr = dxdr + dxdr_term(p, dndr, 3, idim, jdim);
+    dxdr = dxdr + dxdr_term(p, dndr, 4, idim, jdim);
+    dxdr = dxdr + dxdr_term(p, dndr, 5, idim, jdim);
+    dxdr = dxdr + dxdr_term(p, dndr, 6, idim, jdim);
+    dxdr = dxdr + dxdr_term(p, dndr, 7, idim, jdim);
     dxdr
 }
 

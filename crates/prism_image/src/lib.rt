@@ -6,18 +6,29 @@ ghost use Rattle.binary64.specs.Binary64.{_⊗_, _!_};
 ghost use Rattle.cell.specs.Image.{corner, imageOn, jacobianOn, jacobian};
 ghost use Rattle.prism_image.specs.Image.{imageAt, jacobianAt};
 
+// Corner inode's part of entry (idim, ir) of the Jacobian, from the slopes.
+fn dxdr_term(p: &[f64; 18], dndr: &[f64; 18], inode: usize, idim: usize, ir: usize) -> f64
+    requires { ⌜ (inode < 6) × (idim < 3) × (ir < 3) ⌝ }
+    ensures { λ r. ⌜ r ≡ corner (now (p .entry)) inode idim ⊗ corner (now (dndr .entry)) inode ir ⌝ }
+{
+    p[3 * inode + idim] * dndr[3 * inode + ir]
+}
+
 // Entry (idim, ir) of the Jacobian, from the slopes.
 fn dxdr_entry(p: [f64; 18], dndr: [f64; 18], idim: usize, ir: usize) -> f64
     requires { ⌜ (idim < 3) × (ir < 3) ⌝ }
     ensures { λ r. ⌜ r ≡ jacobianOn 6 p dndr idim ir ⌝ }
 {
+    // lent, so that no term copies them
+    let p = &p;
+    let dndr = &dndr;
     let mut dxdr = 0.0;
-    dxdr = dxdr + p[0 + idim] * dndr[0 + ir];
-    dxdr = dxdr + p[3 + idim] * dndr[3 + ir];
-    dxdr = dxdr + p[6 + idim] * dndr[6 + ir];
-    dxdr = dxdr + p[9 + idim] * dndr[9 + ir];
-    dxdr = dxdr + p[12 + idim] * dndr[12 + ir];
-    dxdr = dxdr + p[15 + idim] * dndr[15 + ir];
+    dxdr = dxdr + dxdr_term(p, dndr, 0, idim, ir);
+    dxdr = dxdr + dxdr_term(p, dndr, 1, idim, ir);
+    dxdr = dxdr + dxdr_term(p, dndr, 2, idim, ir);
+    dxdr = dxdr + dxdr_term(p, dndr, 3, idim, ir);
+    dxdr = dxdr + dxdr_term(p, dndr, 4, idim, ir);
+    dxdr = dxdr + dxdr_term(p, dndr, 5, idim, ir);
     dxdr
 }
 

@@ -1,0 +1,27 @@
+-- `prism_image::dxdr_entry` meets its contract: its six products are those of the definition. Assumes nothing.
+use borrow.Author.Needs.{needs}
+use Rattle.prism_image.proofs.dxdr_entry.Statement.{statement}
+use Rattle.prism_image.proofs.dxdr_entry.Tie as tie
+
+returns : tie.Need-returns
+returns c =
+    simp (
+      c .dxdr-term6 .ensures,
+      c .before .dxdr-term5 .ensures,
+      c .before .before .dxdr-term4 .ensures,
+      c .before .before .before .dxdr-term3 .ensures,
+      c .before .before .before .before .dxdr-term2 .ensures,
+      c .before .before .before .before .before .dxdr-term .ensures,
+    )
+
+pub dxdr-entry-spec : {M : Type 1} → statement M
+dxdr-entry-spec =
+    tie.close
+    (tie.spec
+    (λ c κs. search needs)
+    (λ c κs. search needs)
+    (λ c κs. search needs)
+    (λ c κs. search needs)
+    (λ c κs. search needs)
+    (λ c κs. search needs)
+    returns)
