@@ -31,10 +31,8 @@ endif
 help:
 	@sed -n '/^#/!q; s/^# //p' Makefile
 
-# `rt staticlib` alone would prove the rooms below one after another.
 $(ARCHIVE): crates.txt $(shell find crates -name '*.rt' -o -name '*.antt')
-	RT_JOBS=$${RT_JOBS:-4} rt check $$(sed -n 's/^isnemgul://p' crates.txt)
-	rt staticlib isnemgul
+	@tools/archive
 
 # It exports the functions of the C face and nothing else.
 $(SHARED): $(ARCHIVE) tools/isnemgul.map include/isnemgul.h
