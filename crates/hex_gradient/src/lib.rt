@@ -2,8 +2,7 @@
 ghost use mathlib.Core.Path.{_≡_};
 ghost use mathlib.Core.List.{[], _∷_};
 ghost use Prim.Native.Nat.{_<_};
-ghost use Rattle.hex_gradient.specs.Gradient.{gradientDet, slopeInSpace, slopesInSpace};
-ghost use Rattle.hex_gradient.specs.Gradient.{gradient, shapeGradient};
+ghost use Rattle.hex_gradient.specs.Gradient.{gradientDet, slopeInSpace, slopesInSpace, gradient, shapeGradient};
 
 // The slopes of the shape functions in space, three a corner, and the determinant of the Jacobian.
 pub struct Gradient {
