@@ -1,7 +1,9 @@
--- What an entry answers. Document 01: "A refusal returns its number and no other data." Definitions only.
+-- What an entry answers. Document 01: "A refusal returns its number and no other data." Definitions and claims only.
 use Prim.Native.Nat.{ℕ}
 use mathlib.Core.Path.{_≡_}
-use mathlib.Core.List.{List, _++_}
+use mathlib.Core.Bool.{Bool, false, not, _||_}
+use mathlib.Core.List.{List, [], _∷_, _++_}
+use lib.Dec.{T, eqb}
 use lib.ListN.{length, drop}
 
 -- the values, or a refusal's number
@@ -27,6 +29,19 @@ Wrote (refused n) r old new = (r ≡ n) × (new ≡ old)
 abbrev pub numberOf : {A : Type 0} → Answer A → ℕ
 numberOf (answered a) = 0
 numberOf (refused n) = n
+
+-- a refusal's number, where there is one, is one of these
+abbrev pub isOneOf : List ℕ → ℕ → Bool
+isOneOf [] n = false
+isOneOf (m ∷ ms) n = eqb n m || isOneOf ms n
+
+abbrev pub RefusesBy : {A : Type 0} → List ℕ → Answer A → Type 0
+RefusesBy ns (answered a) = Unit {0}
+RefusesBy ns (refused n) = T (isOneOf ns n)
+
+-- So a 0 tells an answer, where it is none of the numbers.
+abbrev pub ZeroTellsAnAnswer : Type 0 → Type 0
+ZeroTellsAnAnswer A = (ns : List ℕ) (a : Answer A) → T (not (isOneOf ns 0)) → RefusesBy ns a → numberOf a ≡ 0 → (v : A) × (a ≡ answered v)
 
 -- what is left of a lent list: "A refusal .. leaves lent buffers untouched. A success writes only what its rule names; the rest of an output keeps what it held."
 abbrev pub left : {A : Type 0} → Answer (List A) → List A → List A

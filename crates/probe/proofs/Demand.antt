@@ -16,23 +16,20 @@ use Rattle.hex_image.specs.Image.{imageAt}
 use Rattle.hex_locate.specs.Locate.{within, inside, located}
 use Rattle.probe.specs.Check.{goodCorner, goodCorners, goodTolerance, nearOn, near, checked, keptIfNear, locatedChecked, told, placeTold}
 use Rattle.probe.specs.Exact.{exactImage, whole, margin, AtMostTPlusE, AtMostTMinusE}
+use Rattle.probe.specs.Demand.{AcceptedIsNear, NearIsAccepted, Floats, Demand3}
 use Rattle.probe.specs.declared.Verdict.{Verdict}
 use Rattle.probe.specs.declared.Verdict.the-variants.{Accepted}
 use Rattle.probe.specs.declared.Checked.{Checked}
-use Rattle.probe.proofs.Answers.{passed, pass, then-answered, answered-same}
+use Rattle.binary64.proofs.Answers.{passed, pass, then-answered, answered-same}
 use Rattle.probe.proofs.Image.{Good, Place, image-balance, image-close}
 use Rattle.probe.proofs.Inputs.{coordinate, good, tolerance, each-axis, all-axes}
 use Rattle.probe.proofs.Located.{located-inside, located-fits}
 use Rattle.probe.proofs.Told.{told-loses-nothing}
 use Rattle.rounding.proofs.Accept.{accepted-near, near-accepted}
 
--- the first n floats of a list are floats that the format holds
-abbrev Fit : ℕ → List Float → Type 0
-Fit n l = (k : ℕ) → k < n → T (fits binary64 (l ! k))
-
 -- ---- of the test on the three axes, for inputs that refusals 3, 4 and 5 let pass
 module _
-    (p q : List Float) (t : Float) (p-fits : Fit 24 p) (q-fits : Fit 3 q) (t-fits : T (fits binary64 t))
+    (p q : List Float) (t : Float) (p-fits : Floats 24 p) (q-fits : Floats 3 q) (t-fits : T (fits binary64 t))
     (corners : T (goodCorners p)) (tol : T (goodTolerance t)) (place : T (inside q))
   where
     at : Place q
@@ -64,8 +61,8 @@ module _
             near-accepted binary64 whole (imageAt p q ! i) (exactImage p q i) _ _ (margin p i) t image exact (tolerance t t-fits tol) (lit≤ tt) (well i below)
 
 -- ---- of the check
-module _ (p q : List Float) (t : Float) (p-fits : Fit 24 p) (q-fits : Fit 3 q) (t-fits : T (fits binary64 t)) where
-  checked-sound : checked p q t ≡ answered tt → AtMostTPlusE p q t
+module _ (p q : List Float) (t : Float) (p-fits : Floats 24 p) (q-fits : Floats 3 q) (t-fits : T (fits binary64 t)) where
+  checked-sound : AcceptedIsNear (checked p q t ≡ answered tt) p q t
   unfolding checked
   checked-sound e =
       let corners = passed (goodCorners p) 3 _ tt e in
@@ -73,17 +70,17 @@ module _ (p q : List Float) (t : Float) (p-fits : Fit 24 p) (q-fits : Fit 3 q) (
       let place = passed (inside q) 5 _ tt (tol .on) in
       near-sound p q t p-fits q-fits t-fits (corners .test) (tol .test) (place .test) (passed (near p q t) 6 _ tt (place .on) .test)
 
-  checked-complete : T (goodCorners p) → T (goodTolerance t) → T (inside q) → AtMostTMinusE p q t → checked p q t ≡ answered tt
+  checked-complete : T (inside q) → NearIsAccepted (checked p q t ≡ answered tt) p q t
   unfolding checked
-  checked-complete corners tol place well =
+  checked-complete place corners tol well =
       pass (goodCorners p) 3 _ tt corners
       (pass (goodTolerance t) 4 _ tt tol
       (pass (inside q) 5 _ tt place
       (pass (near p q t) 6 _ tt (near-complete p q t p-fits q-fits t-fits corners tol place well) refl)))
 
 -- ---- of the checked locator
-module _ (p : List Float) (t : Float) (p-fits : Fit 24 p) (t-fits : T (fits binary64 t)) where
-  located-sound : (q : List Float) → locatedChecked p t ≡ answered q → AtMostTPlusE p q t
+module _ (p : List Float) (t : Float) (p-fits : Floats 24 p) (t-fits : T (fits binary64 t)) where
+  located-sound : (q : List Float) → AcceptedIsNear (locatedChecked p t ≡ answered q) p q t
   unfolding locatedChecked
   located-sound q e =
       let corners = passed (goodCorners p) 3 _ q e in
@@ -94,36 +91,44 @@ module _ (p : List Float) (t : Float) (p-fits : Fit 24 p) (t-fits : T (fits bina
       subst (λ (l : List Float). AtMostTPlusE p l t) (answered-same (kept .on))
       (near-sound p r t p-fits (located-fits p r (found .is)) t-fits (corners .test) (tol .test) (located-inside p r (found .is)) (kept .test))
 
-  located-complete : (q : List Float) → T (goodCorners p) → T (goodTolerance t) → located p ≡ answered q → AtMostTMinusE p q t
-      → locatedChecked p t ≡ answered q
+  located-complete : (q : List Float) → located p ≡ answered q → NearIsAccepted (locatedChecked p t ≡ answered q) p q t
   unfolding locatedChecked
-  located-complete q corners tol found well =
+  located-complete q found corners tol well =
       let passes = near-complete p q t p-fits (located-fits p q found) t-fits corners tol (located-inside p q found) well in
       pass (goodCorners p) 3 _ q corners
       (pass (goodTolerance t) 4 _ q tol
       (ap (λ (a : Answer (List Float)). andThen a (keptIfNear p t)) found ∙ pass (near p q t) 6 (answered q) q passes refl))
 
+pub demand : Demand3
+demand =
+    record {
+      sound = λ p q t. checked-sound p q t;
+      complete = λ p q t. checked-complete p q t;
+      locatedSound = λ p q t p-fits t-fits. located-sound p t p-fits t-fits q;
+      locatedComplete = λ p q t p-fits t-fits. located-complete p t p-fits t-fits q;
+    }
+
 -- ---- the promises of the two functions, from what is told of their answers
-pub check-promises : (p : List Float) (at : Point) (t : Float) (r : Verdict) → Fit 24 p → Fit 3 (coords at) → T (fits binary64 t)
+pub check-promises : (p : List Float) (at : Point) (t : Float) (r : Verdict) → Floats 24 p → Floats 3 (coords at) → T (fits binary64 t)
     → told r ≡ checked p (coords at) t
-    → (told r ≡ checked p (coords at) t) × ((r ≡ Accepted → AtMostTPlusE p (coords at) t)
-    × (T (goodCorners p) → T (goodTolerance t) → T (inside (coords at)) → AtMostTMinusE p (coords at) t → r ≡ Accepted))
+    → (told r ≡ checked p (coords at) t) × (AcceptedIsNear (r ≡ Accepted) p (coords at) t
+    × (T (inside (coords at)) → NearIsAccepted (r ≡ Accepted) p (coords at) t))
 check-promises p at t r p-fits q-fits t-fits e =
     let q = coords at in (
       e,
       (
         λ accepted. checked-sound p q t p-fits q-fits t-fits (sym e ∙ ap told accepted),
-        λ corners tol place well. told-loses-nothing r Accepted (e ∙ checked-complete p q t p-fits q-fits t-fits corners tol place well),
+        λ place corners tol well. told-loses-nothing r Accepted (e ∙ checked-complete p q t p-fits q-fits t-fits place corners tol well),
       ),
     )
 
-pub locate-promises : (p : List Float) (t : Float) (r : Checked) → Fit 24 p → T (fits binary64 t) → placeTold r ≡ locatedChecked p t
-    → (placeTold r ≡ locatedChecked p t) × (((q : List Float) → placeTold r ≡ answered q → AtMostTPlusE p q t)
-    × ((q : List Float) → T (goodCorners p) → T (goodTolerance t) → located p ≡ answered q → AtMostTMinusE p q t → placeTold r ≡ answered q))
+pub locate-promises : (p : List Float) (t : Float) (r : Checked) → Floats 24 p → T (fits binary64 t) → placeTold r ≡ locatedChecked p t
+    → (placeTold r ≡ locatedChecked p t) × (((q : List Float) → AcceptedIsNear (placeTold r ≡ answered q) p q t)
+    × ((q : List Float) → located p ≡ answered q → NearIsAccepted (placeTold r ≡ answered q) p q t))
 locate-promises p t r p-fits t-fits e = (
   e,
   (
     λ q kept. located-sound p t p-fits t-fits q (sym e ∙ kept),
-    λ q corners tol found well. e ∙ located-complete p t p-fits t-fits q corners tol found well,
+    λ q found corners tol well. e ∙ located-complete p t p-fits t-fits q found corners tol well,
   ),
 )

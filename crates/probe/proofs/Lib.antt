@@ -1,9 +1,9 @@
-pub mod Answers
 pub mod Arguments
 pub mod Demand
 pub mod Image
 pub mod Inputs
 pub mod Located
+pub mod Refusals
 pub mod Shape
 pub mod Told
 pub mod Weights

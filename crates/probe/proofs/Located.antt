@@ -14,7 +14,7 @@ use Rattle.mat3_inverse.specs.Inverse.{inverse}
 use Rattle.cell.specs.Newton.{lessBy, stepFrom, after, verdict}
 use Rattle.hex_image.specs.Image.{imageAt, jacobianAt}
 use Rattle.hex_locate.specs.Locate.{step, start, inside, located}
-use Rattle.probe.proofs.Answers.{Answered, then-answered, answered-same, never}
+use Rattle.binary64.proofs.Answers.{Answered, then-answered, answered-same, never}
 
 less-fits : (q d : List Float) (i : ℕ) → i < 3 → T (fits binary64 (lessBy q d ! i))
 less-fits q d i below =

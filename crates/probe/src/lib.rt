@@ -10,8 +10,8 @@ ghost use Rattle.binary64.specs.Answer.{answered, andThen};
 ghost use Rattle.cell.specs.Newton.{coords};
 ghost use Rattle.cell.specs.Newton as newton;
 ghost use Rattle.hex_locate.specs.Locate.{inside, located};
-ghost use Rattle.probe.specs.Exact.{AtMostTPlusE, AtMostTMinusE};
 ghost use Rattle.probe.specs.Check.{goodCorner, goodCorners, goodTolerance, nearOn, near, checked, keptIfNear, locatedChecked, told, placeTold};
+ghost use Rattle.probe.specs.Demand.{AcceptedIsNear, NearIsAccepted, Floats};
 
 // Whether the image is near enough, or the number of the refusal.
 pub enum Verdict {
@@ -75,8 +75,8 @@ fn near(p: &[f64; 24], pco: [f64; 3], t: f64) -> bool
     near_on(x[0], t) & near_on(x[1], t) & near_on(x[2], t)
 }
 
-// The check of corners that are lent: its refusals in their order, 3, 4, 5, 6. What their passing means stands at `check`.
-pub fn judge(corners: &[f64; 24], at: Point, tolerance: f64) -> Verdict
+// The check's refusals in their order: 3, 4, 5, 6.
+fn decide(corners: &[f64; 24], at: Point, tolerance: f64) -> Verdict
     ensures { λ r. ⌜ told r ≡ checked (now (corners .entry)) (coords at) tolerance ⌝ }
 {
     if !good_corners(corners) {
@@ -94,13 +94,28 @@ pub fn judge(corners: &[f64; 24], at: Point, tolerance: f64) -> Verdict
     Verdict::Accepted
 }
 
-// Whether the image of a place is within the tolerance of the probe. With M the largest corner size on an axis and e = 14 M / 2^53, an accepted place's
-// exact image is at most T + e from the probe on each axis; and a place whose exact image is at most T - e from it on each is accepted.
+// What is handed over by value are floats that binary64 holds, and a caller that was lent them has it from here. It compiles to nothing.
+fn held(corners: [f64; 24])
+    ensures { λ _. ⌜ Floats 24 corners ⌝ }
+{
+}
+
+// The check of corners that are lent. With M the largest corner size on an axis and e = 14 M / 2^53, an accepted place's exact image is at most T + e from
+// the probe on each axis; and a place whose exact image is at most T - e from it on each is accepted.
+pub fn judge(corners: &[f64; 24], at: Point, tolerance: f64) -> Verdict
+    ensures { λ r. ⌜ told r ≡ checked (now (corners .entry)) (coords at) tolerance ⌝ }
+    ensures sound { λ r. ⌜ AcceptedIsNear (r ≡ Verdict.Accepted) (now (corners .entry)) (coords at) tolerance ⌝ }
+    ensures complete { λ r. ⌜ (T (inside (coords at)) → NearIsAccepted (r ≡ Verdict.Accepted) (now (corners .entry)) (coords at) tolerance) ⌝ }
+{
+    held(*corners);
+    decide(corners, at, tolerance)
+}
+
+// Whether the image of a place is within the tolerance of the probe: `judge` of corners by value.
 pub fn check(corners: [f64; 24], at: Point, tolerance: f64) -> Verdict
     ensures { λ r. ⌜ told r ≡ checked corners (coords at) tolerance ⌝ }
-    ensures sound { λ r. ⌜ (r ≡ Verdict.Accepted → AtMostTPlusE corners (coords at) tolerance) ⌝ }
-    ensures complete { λ r. ⌜ (T (goodCorners corners) → T (goodTolerance tolerance) → T (inside (coords at))
-        → AtMostTMinusE corners (coords at) tolerance → r ≡ Verdict.Accepted) ⌝ }
+    ensures sound { λ r. ⌜ AcceptedIsNear (r ≡ Verdict.Accepted) corners (coords at) tolerance ⌝ }
+    ensures complete { λ r. ⌜ (T (inside (coords at)) → NearIsAccepted (r ≡ Verdict.Accepted) corners (coords at) tolerance) ⌝ }
 {
     judge(&corners, at, tolerance)
 }
@@ -139,9 +154,8 @@ fn locate(corners: [f64; 24], tolerance: f64) -> Checked
 // accepts holds of this one, and Newton's place is kept where `check` would accept it.
 pub fn locate_checked(corners: [f64; 24], tolerance: f64) -> Checked
     ensures { λ r. ⌜ placeTold r ≡ locatedChecked corners tolerance ⌝ }
-    ensures sound { λ r. ⌜ ((q : List Float) → placeTold r ≡ answered q → AtMostTPlusE corners q tolerance) ⌝ }
-    ensures complete { λ r. ⌜ ((q : List Float) → T (goodCorners corners) → T (goodTolerance tolerance) → located corners ≡ answered q
-        → AtMostTMinusE corners q tolerance → placeTold r ≡ answered q) ⌝ }
+    ensures sound { λ r. ⌜ ((q : List Float) → AcceptedIsNear (placeTold r ≡ answered q) corners q tolerance) ⌝ }
+    ensures complete { λ r. ⌜ ((q : List Float) → located corners ≡ answered q → NearIsAccepted (placeTold r ≡ answered q) corners q tolerance) ⌝ }
 {
     locate(corners, tolerance)
 }

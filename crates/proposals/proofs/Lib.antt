@@ -1,4 +1,5 @@
 pub mod Corners
+pub mod Demand
 pub mod Told
 pub mod Walk
 pub mod Written

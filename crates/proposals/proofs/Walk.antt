@@ -69,10 +69,18 @@ module _ {M : Type 1} {𝓤 : URA M} {H : Heap 𝓤} {A : Atoms 𝓤} {K : Type 
   pub concludes : K → {P : SProp 𝓤} (P′ : SProp 𝓤) → ent 𝓤 P′ (H .⇛ P) → Step K W Γ (prop P′) Γ (upd P)
   concludes t P′ h = step (λ s. record { prf = via 𝓤 P′ (s .prf) h })
 
-  -- two clauses of a contract are shown
-  pub says-both : K → {φ ψ : Type 0} {P : SProp 𝓤} → φ → ψ → Step K W Γ (prop P) Γ (prop (sep 𝓤 P (sep 𝓤 (fact 𝓤 φ) (fact 𝓤 ψ))))
-  says-both t {φ} {ψ} {P} x y =
-      step (λ s. suffices t (sep 𝓤 (sep 𝓤 P (fact 𝓤 φ)) (fact 𝓤 ψ)) (assoc∗ 𝓤 P (fact 𝓤 φ) (fact 𝓤 ψ)) $ says t y $ says t x $ s)
+  -- the four clauses of a contract are shown
+  pub says-all : K → {φ ψ χ ω : Type 0} {P : SProp 𝓤} → φ → ψ → χ → ω
+      → Step K W Γ (prop P) Γ (prop (sep 𝓤 P (sep 𝓤 (fact 𝓤 φ) (sep 𝓤 (fact 𝓤 ψ) (sep 𝓤 (fact 𝓤 χ) (fact 𝓤 ω))))))
+  says-all t {φ} {ψ} {χ} {ω} {P} x y z w =
+      let One : SProp 𝓤 = sep 𝓤 P (fact 𝓤 φ) in
+      let Two : SProp 𝓤 = sep 𝓤 One (fact 𝓤 ψ) in
+      let Last : SProp 𝓤 = sep 𝓤 (fact 𝓤 χ) (fact 𝓤 ω) in
+      let Later : SProp 𝓤 = sep 𝓤 (fact 𝓤 ψ) Last in
+      step (λ s.
+      suffices t (sep 𝓤 One Later) (assoc∗ 𝓤 P (fact 𝓤 φ) Later) $ suffices t (sep 𝓤 Two Last) (assoc∗ 𝓤 One (fact 𝓤 ψ) Last) $
+      suffices t (sep 𝓤 (sep 𝓤 Two (fact 𝓤 χ)) (fact 𝓤 ω)) (assoc∗ 𝓤 Two (fact 𝓤 χ) (fact 𝓤 ω)) $
+      says t w $ says t z $ says t y $ says t x $ s)
 
 -- what a function on plain data is asked at entry, where it requires nothing and names no lifetime, is had for nothing
 module _ {M : Type 1} (𝓤 : URA M) (H : Heap 𝓤) (A : Atoms 𝓤) (Rs : List RattleType) where

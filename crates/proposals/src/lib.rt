@@ -1,9 +1,11 @@
 // A list of proposals, each judged by the distance check against one cell: corners are 24 floats, corner by corner, less the probe's place.
 use cell::Point;
 use probe::Verdict;
+ghost use Prim.Native.Nat.{ℕ};
 ghost use mathlib.Core.Path.{_≡_};
 ghost use lib.ListN.{length};
-ghost use Rattle.binary64.specs.Answer.{left};
+ghost use Rattle.binary64.specs.Answer.{answered, left};
+ghost use Rattle.proposals.specs.Demand.{ZeroIsNear, NearIsZero, Each};
 ghost use Rattle.proposals.specs.Judgements.{judgement, judgements, unlessRefused, zerosIn, turnsOf, told};
 
 // A proposed place, and how far its image may be from the probe on each axis.
@@ -50,10 +52,13 @@ fn answer(n: usize, room: usize, accepted: u32) -> Judged
     Judged::Accepted(accepted)
 }
 
-// Writes 0 or the check's refusal for each record, and answers how many zeros it wrote. A refused list has no turn, so that nothing is written.
+// Writes 0 or the check's refusal for each record, and answers how many zeros it wrote. A refused list has no turn, so that nothing is written. Of a list
+// that is judged each 0 is worth what an acceptance by `check` is, and each place that is near enough has one.
 pub fn check_proposals(corners: [f64; 24], list: &[Proposal], out: &mut [u32]) -> Judged
     ensures answer { λ r. ⌜ told r ≡ zerosIn (judgements corners (now (list .entry)) (length (now (out .entry)))) ⌝ }
     ensures output { λ _. ⌜ now (out .exit) ≡ left (judgements corners (now (list .entry)) (length (now (out .entry)))) (now (out .entry)) ⌝ }
+    ensures sound { λ r. ⌜ ((n : ℕ) → told r ≡ answered n → Each ZeroIsNear corners (now (list .entry)) (now (out .exit))) ⌝ }
+    ensures complete { λ r. ⌜ ((n : ℕ) → told r ≡ answered n → Each NearIsZero corners (now (list .entry)) (now (out .exit))) ⌝ }
 {
     let n = list.len();
     let room = out.len();

@@ -1,77 +1,17 @@
--- `probe::judge` meets its contract: each way out is one rung of the definition's ladder. Assumes nothing.
+-- `probe::judge` meets its contract: its answer is the definition's, which keeps both halves of demand 3. Assumes nothing.
 use borrow.Author.Needs.{needs}
-use Rattle.probe.specs.Check.{checked}
+use denote.Floats.{passes}
+use Rattle.probe.proofs.Arguments.{point-fits}
+use Rattle.probe.proofs.Demand.{check-promises}
 use Rattle.probe.proofs.judge.Statement.{statement}
 use Rattle.probe.proofs.judge.Tie as tie
 
 returns : tie.Need-returns
-unfolding checked
-returns c = simp (← c .before .good-corners .ensures, c .if1 .taken)
-
-returns-2 : tie.Need-returns-2
-unfolding checked
-returns-2 c =
-    let corners = c .before .before in
-    simp (← corners .before .good-corners .ensures, corners .if1 .left, ← c .before .good-tolerance .ensures, c .if2 .taken)
-
-returns-3 : tie.Need-returns-3
-unfolding checked
-returns-3 c =
-    let tolerance = c .before .before in
-    let corners = tolerance .before .before in
-    simp (
-      ← corners .before .good-corners .ensures,
-      corners .if1 .left,
-      ← tolerance .before .good-tolerance .ensures,
-      tolerance .if2 .left,
-      ← c .before .good-place .ensures,
-      c .if3 .taken,
-    )
-
-returns-4 : tie.Need-returns-4
-unfolding checked
-returns-4 c =
-    let place = c .before .before in
-    let tolerance = place .before .before in
-    let corners = tolerance .before .before in
-    simp (
-      ← corners .before .good-corners .ensures,
-      corners .if1 .left,
-      ← tolerance .before .good-tolerance .ensures,
-      tolerance .if2 .left,
-      ← place .before .good-place .ensures,
-      place .if3 .left,
-      ← c .before .near .ensures,
-      c .if4 .taken,
-    )
-
-returns-5 : tie.Need-returns-5
-unfolding checked
-returns-5 c =
-    let place = c .before .before in
-    let tolerance = place .before .before in
-    let corners = tolerance .before .before in
-    simp (
-      ← corners .before .good-corners .ensures,
-      corners .if1 .left,
-      ← tolerance .before .good-tolerance .ensures,
-      tolerance .if2 .left,
-      ← place .before .good-place .ensures,
-      place .if3 .left,
-      ← c .before .near .ensures,
-      c .if4 .left,
-    )
+returns c =
+    let held = c .before in
+    let start = held .before .before in
+    check-promises (start .args .corners .now) (start .args .at) (start .args .tolerance) (c .decide .result)
+    (held .held .ensures) (point-fits (start .args .at) _ (start .good .1 .0)) (passes _ (start .good .1 .1 .0 .1)) (c .decide .ensures)
 
 pub judge-spec : {M : Type 1} → statement M
-judge-spec =
-    tie.close
-    (tie.spec
-    (λ c κs. search needs)
-    returns
-    (λ c κs. search needs)
-    returns-2
-    (λ c κs. search needs)
-    returns-3
-    (λ c κs. search needs)
-    returns-4
-    returns-5)
+judge-spec = tie.close (tie.spec (λ c κs. search needs) (λ c κs. search needs) returns)

@@ -1,0 +1,66 @@
+-- Which numbers a ladder of refusals has, what 0 tells of its answer, and how it comes to one. Assumes nothing.
+use Prim.Native.Nat.{ℕ}
+use native.Mathlib.Omega.{arith}
+use mathlib.Core.Path.{_≡_, refl, sym, _∙_, subst}
+use mathlib.Core.Bool.{Bool, true, false, not, cond}
+use mathlib.Core.List.{List}
+use lib.Dec.{T}
+use Rattle.binary64.specs.Answer.{Answer, answered, refused, andThen, numberOf, Wrote, isOneOf, RefusesBy, ZeroTellsAnAnswer}
+
+-- ---- two answers that are one
+pub answered-same : {A : Type 0} {v w : A} → answered v ≡ answered w → v ≡ w
+answered-same e = cc
+
+pub never : {A : Type 0} (n : ℕ) (v : A) → refused n ≡ answered v → ⊥
+never n v e = let z : _≡_ {A = ℕ} 0 1 = cc in omega arith
+
+-- ---- every rung of a ladder was passed
+pub record Passed {A : Type 0} (good : Bool) (rest : Answer A) (v : A) : Type 0 where
+  pub test : T good
+  pub on : rest ≡ answered v
+
+pub passed : {A : Type 0} (good : Bool) (n : ℕ) (rest : Answer A) (v : A) → cond (not good) (refused n) rest ≡ answered v → Passed good rest v
+passed true n rest v e = record { test = tt; on = e }
+passed false n rest v e = absurd (never n v e)
+
+pub pass : {A : Type 0} (good : Bool) (n : ℕ) (rest : Answer A) (v : A) → T good → rest ≡ answered v → cond (not good) (refused n) rest ≡ answered v
+pass true n rest v h e = e
+pass false n rest v h e = absurd h
+
+pub record Answered {A B : Type 0} (x : Answer A) (f : A → Answer B) (v : B) : Type 0 where
+  pub value : A
+  pub is : x ≡ answered value
+  pub next : f value ≡ answered v
+
+pub then-answered : {A B : Type 0} (x : Answer A) (f : A → Answer B) (v : B) → andThen x f ≡ answered v → Answered x f v
+then-answered (answered a) f v e = record { value = a; is = refl; next = e }
+then-answered (refused n) f v e = absurd (never n v e)
+
+-- ---- the numbers of a ladder
+pub refuses-unless : {A : Type 0} (ns : List ℕ) (b : Bool) (n : ℕ) (rest : Answer A) → T (isOneOf ns n) → RefusesBy ns rest → RefusesBy ns (cond b (refused n) rest)
+refuses-unless ns true n rest one others = one
+refuses-unless ns false n rest one others = others
+
+pub refuses-then : {A B : Type 0} (ns : List ℕ) (x : Answer A) (f : A → Answer B) → RefusesBy ns x → ((a : A) → RefusesBy ns (f a)) → RefusesBy ns (andThen x f)
+refuses-then ns (answered a) f one others = others a
+refuses-then ns (refused n) f one others = one
+
+-- ---- what 0 tells
+none-is-zero : (ns : List ℕ) (n : ℕ) → T (not (isOneOf ns 0)) → T (isOneOf ns n) → n ≡ 0 → ⊥
+none-is-zero ns n without one zero = both (isOneOf ns 0) without (subst (λ (k : ℕ). T (isOneOf ns k)) zero one)
+  where
+    both : (b : Bool) → T (not b) → T b → ⊥
+    both true h g = h
+    both false h g = g
+
+pub zero-tells-an-answer : (A : Type 0) → ZeroTellsAnAnswer A
+zero-tells-an-answer A ns (answered v) without one zero = (v, refl)
+zero-tells-an-answer A ns (refused n) without one zero = absurd (none-is-zero ns n without one zero)
+
+pub wrote-zero : {A : Type 0} (ns : List ℕ) (a : Answer A) (r : ℕ) (old new : A) → T (not (isOneOf ns 0)) → RefusesBy ns a → Wrote a r old new → r ≡ 0 → a ≡ answered new
+wrote-zero ns (answered v) r old new without one wrote zero = let same : new ≡ v = wrote .1 in cc
+wrote-zero ns (refused n) r old new without one wrote zero = absurd (none-is-zero ns n without one (sym (wrote .0) ∙ zero))
+
+pub wrote-answered : {A : Type 0} (a : Answer A) (r : ℕ) (old new v : A) → Wrote a r old new → a ≡ answered v → (r ≡ 0) × (new ≡ v)
+wrote-answered (answered w) r old new v wrote e = (wrote .0, wrote .1 ∙ answered-same e)
+wrote-answered (refused n) r old new v wrote e = absurd (never n v e)

@@ -1,0 +1,42 @@
+-- The numbers by which the check and the checked locator refuse: 0 is none of them, so it tells an acceptance. Assumes nothing.
+use Prim.Native.Nat.{ℕ}
+use mathlib.Core.Path.{_≡_}
+use mathlib.Core.Bool.{not}
+use mathlib.Core.List.{List, [], _∷_}
+use lib.Dec.{T}
+use lib.Ieee.{Float}
+use Rattle.binary64.specs.Answer.{answered, numberOf, isOneOf, RefusesBy}
+use Rattle.binary64.proofs.Answers.{refuses-unless, refuses-then, zero-tells-an-answer}
+use Rattle.cell.proofs.Refusals.{step-refuses, locate-refuses}
+use Rattle.hex_image.specs.Image.{imageAt, jacobianAt}
+use Rattle.hex_locate.specs.Locate.{step, start, inside, located}
+use Rattle.probe.specs.Check.{goodCorners, goodTolerance, near, checked, keptIfNear, locatedChecked}
+
+abbrev ofCheck : List ℕ
+ofCheck = 3 ∷ 4 ∷ 5 ∷ 6 ∷ []
+
+pub checked-refuses : (p q : List Float) (t : Float) → RefusesBy ofCheck (checked p q t)
+unfolding checked
+checked-refuses p q t =
+    refuses-unless ofCheck (not (goodCorners p)) 3 _ tt
+    (refuses-unless ofCheck (not (goodTolerance t)) 4 _ tt
+    (refuses-unless ofCheck (not (inside q)) 5 _ tt
+    (refuses-unless ofCheck (not (near p q t)) 6 (answered tt) tt tt)))
+
+pub zero-accepts : (p q : List Float) (t : Float) → numberOf (checked p q t) ≡ 0 → checked p q t ≡ answered tt
+zero-accepts p q t zero = zero-tells-an-answer (Unit {0}) ofCheck (checked p q t) tt (checked-refuses p q t) zero .1
+
+abbrev ofLocator : List ℕ
+ofLocator = 3 ∷ 4 ∷ 1 ∷ 2 ∷ 6 ∷ []
+
+pub located-refuses : (ns : List ℕ) (p : List Float) → T (isOneOf ns 1) → T (isOneOf ns 2) → RefusesBy ns (located p)
+unfolding located step
+located-refuses ns p one two = locate-refuses ns (step p) start (λ q. step-refuses ns q (imageAt p q) (jacobianAt p q) one) inside two
+
+pub located-checked-refuses : (p : List Float) (t : Float) → RefusesBy ofLocator (locatedChecked p t)
+unfolding locatedChecked
+located-checked-refuses p t =
+    refuses-unless ofLocator (not (goodCorners p)) 3 _ tt
+    (refuses-unless ofLocator (not (goodTolerance t)) 4 _ tt
+    (refuses-then ofLocator (located p) (keptIfNear p t) (located-refuses ofLocator p tt tt)
+    (λ q. refuses-unless ofLocator (not (near p q t)) 6 (answered q) tt tt)))
