@@ -37,13 +37,18 @@ then-answered (answered a) f v e = record { value = a; is = refl; next = e }
 then-answered (refused n) f v e = absurd (never n v e)
 
 -- ---- the numbers of a ladder
-pub refuses-unless : {A : Type 0} (ns : List ℕ) (b : Bool) (n : ℕ) (rest : Answer A) → T (isOneOf ns n) → RefusesBy ns rest → RefusesBy ns (cond b (refused n) rest)
-refuses-unless ns true n rest one others = one
-refuses-unless ns false n rest one others = others
+module _ {A : Type 0} (ns : List ℕ) where
+  pub refuses-unless : (b : Bool) (n : ℕ) (rest : Answer A) → T (isOneOf ns n) → RefusesBy ns rest → RefusesBy ns (cond b (refused n) rest)
+  refuses-unless true n rest one others = one
+  refuses-unless false n rest one others = others
 
-pub refuses-then : {A B : Type 0} (ns : List ℕ) (x : Answer A) (f : A → Answer B) → RefusesBy ns x → ((a : A) → RefusesBy ns (f a)) → RefusesBy ns (andThen x f)
-refuses-then ns (answered a) f one others = others a
-refuses-then ns (refused n) f one others = one
+  pub refuses-else : (b : Bool) (a : A) (n : ℕ) → T (isOneOf ns n) → RefusesBy ns (cond b (answered a) (refused n))
+  refuses-else true a n one = tt
+  refuses-else false a n one = one
+
+  pub refuses-then : {B : Type 0} (x : Answer A) (f : A → Answer B) → RefusesBy ns x → ((a : A) → RefusesBy ns (f a)) → RefusesBy ns (andThen x f)
+  refuses-then (answered a) f one others = others a
+  refuses-then (refused n) f one others = one
 
 -- ---- what 0 tells
 none-is-zero : (ns : List ℕ) (n : ℕ) → T (not (isOneOf ns 0)) → T (isOneOf ns n) → n ≡ 0 → ⊥
@@ -57,7 +62,8 @@ pub zero-tells-an-answer : (A : Type 0) → ZeroTellsAnAnswer A
 zero-tells-an-answer A ns (answered v) without one zero = (v, refl)
 zero-tells-an-answer A ns (refused n) without one zero = absurd (none-is-zero ns n without one zero)
 
-pub wrote-zero : {A : Type 0} (ns : List ℕ) (a : Answer A) (r : ℕ) (old new : A) → T (not (isOneOf ns 0)) → RefusesBy ns a → Wrote a r old new → r ≡ 0 → a ≡ answered new
+pub wrote-zero : {A : Type 0} (ns : List ℕ) (a : Answer A) (r : ℕ) (old new : A) → T (not (isOneOf ns 0)) → RefusesBy ns a → Wrote a r old new → r ≡ 0
+    → a ≡ answered new
 wrote-zero ns (answered v) r old new without one wrote zero = let same : new ≡ v = wrote .1 in cc
 wrote-zero ns (refused n) r old new without one wrote zero = absurd (none-is-zero ns n without one (sym (wrote .0) ∙ zero))
 

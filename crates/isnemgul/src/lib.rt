@@ -3,13 +3,16 @@
 use cell::Point;
 use proposals::Proposal;
 ghost use mathlib.Core.Path.{_≡_};
+ghost use mathlib.Core.List.{List};
+ghost use lib.Dec.{T};
+ghost use lib.Ieee.{Float};
 ghost use lib.ListN.{length};
-ghost use Rattle.binary64.specs.Answer.{Wrote, left, numberOf};
+ghost use Rattle.binary64.specs.Answer.{answered, Wrote, left, numberOf};
 ghost use Rattle.mat3_col_major.specs.Mat3.{transposed, product, det};
 ghost use Rattle.mat3_inverse.specs.Inverse.{inverse};
 ghost use Rattle.hex_shape.specs.Shape as Hex;
 ghost use Rattle.hex_image.specs.Image as HexImage;
-ghost use Rattle.hex_locate.specs.Locate.{located as hexLocated};
+ghost use Rattle.hex_locate.specs.Locate.{inside, located as hexLocated};
 ghost use Rattle.hex_gradient.specs.Gradient.{gradient, shapeGradient};
 ghost use Rattle.hex_weighted_gradient.specs.Weighted.{weightedGradient};
 ghost use Rattle.hex_volume.specs.Volume.{volume as hexVolume};
@@ -18,7 +21,9 @@ ghost use Rattle.hex_iso_position.specs.Position.{isoPosition};
 ghost use Rattle.hex_iso.specs.Edges.{isoEdges};
 ghost use Rattle.hex_children.specs.Children.{children as hexChildren};
 ghost use Rattle.probe.specs.Check.{checked, locatedChecked};
+ghost use Rattle.probe.specs.Demand.{AcceptedIsNear, NearIsAccepted};
 ghost use Rattle.proposals.specs.Judgements.{judgements, zerosIn};
+ghost use Rattle.proposals.specs.Demand.{ZeroIsNear, NearIsZero, Each};
 ghost use Rattle.prism_shape.specs.Shape as Prism;
 ghost use Rattle.prism_image.specs.Image as PrismImage;
 ghost use Rattle.prism_locate.specs.Locate.{located as prismLocated};
@@ -214,6 +219,8 @@ pub extern "C" fn isn_hex_subdivide(
 #[no_mangle]
 pub extern "C" fn isn_hex_check(corners: &[f64; 24], at: &[f64; 3], tolerance: f64) -> u32
     ensures { λ r. ⌜ r ≡ numberOf (checked (now (corners .entry)) (now (at .entry)) tolerance) ⌝ }
+    ensures sound { λ r. ⌜ AcceptedIsNear (r ≡ 0) (now (corners .entry)) (now (at .entry)) tolerance ⌝ }
+    ensures complete { λ r. ⌜ (T (inside (now (at .entry))) → NearIsAccepted (r ≡ 0) (now (corners .entry)) (now (at .entry)) tolerance) ⌝ }
 {
     let place = Point {
         x: at[0],
@@ -230,6 +237,9 @@ pub extern "C" fn isn_hex_locate_checked(
     at: &mut [f64; 3],
 ) -> u32
     ensures { λ r. ⌜ Wrote (locatedChecked (now (corners .entry)) tolerance) r (now (at .entry)) (now (at .exit)) ⌝ }
+    ensures sound { λ r. ⌜ AcceptedIsNear (r ≡ 0) (now (corners .entry)) (now (at .exit)) tolerance ⌝ }
+    ensures complete { λ r. ⌜ ((q : List Float) → hexLocated (now (corners .entry)) ≡ answered q
+        → NearIsAccepted ((r ≡ 0) × (now (at .exit) ≡ q)) (now (corners .entry)) q tolerance) ⌝ }
 {
     answers::put_checked(probe::locate_checked(*corners, tolerance), at)
 }
@@ -243,6 +253,8 @@ pub extern "C" fn isn_hex_check_proposals(
 ) -> u32
     ensures answer { λ r. ⌜ Wrote (zerosIn (judgements (now (corners .entry)) (now (list .entry)) (length (now (out .entry))))) r (now (accepted .entry)) (now (accepted .exit)) ⌝ }
     ensures output { λ _. ⌜ now (out .exit) ≡ left (judgements (now (corners .entry)) (now (list .entry)) (length (now (out .entry)))) (now (out .entry)) ⌝ }
+    ensures sound { λ r. ⌜ (r ≡ 0 → Each ZeroIsNear (now (corners .entry)) (now (list .entry)) (now (out .exit))) ⌝ }
+    ensures complete { λ r. ⌜ (r ≡ 0 → Each NearIsZero (now (corners .entry)) (now (list .entry)) (now (out .exit))) ⌝ }
 {
     answers::put_judged(proposals::check_proposals(*corners, list, out), accepted)
 }

@@ -1,6 +1,6 @@
 -- The numbers by which the check and the checked locator refuse: 0 is none of them, so it tells an acceptance. Assumes nothing.
 use Prim.Native.Nat.{ℕ}
-use mathlib.Core.Path.{_≡_}
+use mathlib.Core.Path.{_≡_, sym, ap, _∙_}
 use mathlib.Core.Bool.{not}
 use mathlib.Core.List.{List, [], _∷_}
 use lib.Dec.{T}
@@ -10,7 +10,10 @@ use Rattle.binary64.proofs.Answers.{refuses-unless, refuses-then, zero-tells-an
 use Rattle.cell.proofs.Refusals.{step-refuses, locate-refuses}
 use Rattle.hex_image.specs.Image.{imageAt, jacobianAt}
 use Rattle.hex_locate.specs.Locate.{step, start, inside, located}
-use Rattle.probe.specs.Check.{goodCorners, goodTolerance, near, checked, keptIfNear, locatedChecked}
+use Rattle.probe.specs.Check.{goodCorners, goodTolerance, near, checked, keptIfNear, locatedChecked, told}
+use Rattle.probe.specs.declared.Verdict.{Verdict}
+use Rattle.probe.specs.declared.Verdict.the-variants.{Accepted}
+use Rattle.probe.proofs.Told.{told-loses-nothing}
 
 abbrev ofCheck : List ℕ
 ofCheck = 3 ∷ 4 ∷ 5 ∷ 6 ∷ []
@@ -40,3 +43,7 @@ located-checked-refuses p t =
     (refuses-unless ofLocator (not (goodTolerance t)) 4 _ tt
     (refuses-then ofLocator (located p) (keptIfNear p t) (located-refuses ofLocator p tt tt)
     (λ q. refuses-unless ofLocator (not (near p q t)) 6 (answered q) tt tt)))
+
+-- so a verdict of which 0 is told is an acceptance
+pub accepted-by-zero : (p q : List Float) (t : Float) (v : Verdict) → told v ≡ checked p q t → numberOf (told v) ≡ 0 → v ≡ Accepted
+accepted-by-zero p q t v e zero = told-loses-nothing v Accepted (e ∙ zero-accepts p q t (ap numberOf (sym e) ∙ zero))

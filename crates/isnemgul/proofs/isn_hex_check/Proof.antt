@@ -1,15 +1,19 @@
--- `isnemgul::isn_hex_check` meets its contract: the place is the three floats lent, and its two calls are composed. Assumes nothing.
+-- `isnemgul::isn_hex_check` meets its contract: the place is the three floats lent, its two calls are composed, and 0 tells an acceptance.
+-- Assumes nothing.
 use borrow.Author.Needs.{needs}
-use mathlib.Core.Path.{_≡_, ap, _∙_}
-use Rattle.binary64.specs.Answer.{numberOf}
 use Rattle.hex_image.specs.Image.{imageAt}
 use Rattle.probe.specs.Check.{checked}
+use Rattle.probe.specs.Exact.{exactImage}
+use Rattle.isnemgul.proofs.Demand.{check-told}
 use Rattle.isnemgul.proofs.isn_hex_check.Statement.{statement}
 use Rattle.isnemgul.proofs.isn_hex_check.Tie as tie
 
 returns : tie.Need-returns
-unfolding checked imageAt
-returns c = c .put-verdict .ensures ∙ ap numberOf (c .before .judge .ensures)
+unfolding checked imageAt exactImage
+returns c =
+    let args = c .before .before .before .before .before .args in
+    check-told (args .corners .now) (args .at .now) (args .tolerance) (c .before .judge .result) (c .put-verdict .result) (c .put-verdict .ensures)
+    (c .before .judge .ensures)
 
 pub isn-hex-check-spec : {M : Type 1} → statement M
 isn-hex-check-spec =

@@ -1,7 +1,8 @@
 -- `isnemgul::isn_hex_check_proposals` meets its contract: a walk of its MIR, by hand, since the borrow checker does not cover a slice of structs. The
--- corners are copied, `check_proposals` has the list and the output, `put_judged` the count, and what the two say is what is said here. Assumes nothing.
+-- corners are copied, `check_proposals` has the list and the output, `put_judged` the count, and what the two say is what is said here, since 0 tells a list
+-- that was judged. Assumes nothing.
 use Prim.Native.Nat.{ℕ}
-use mathlib.Core.Path.{_≡_, refl, subst}
+use mathlib.Core.Path.{_≡_, refl, _∙_, subst}
 use mathlib.Core.List.{List, [], _∷_}
 use lib.ListN.{length}
 use lib.Ieee.{Float, binary64}
@@ -39,7 +40,9 @@ use denote.Triple.Spec.{Meets, tripleOf}
 use denote.Triple.Statement.{Contract, Triple}
 use denote.Triple.Table.{entered, cited}
 use denote.Triple.Walked.{Stays, stay-dropped, gave-slice, gave-ref, walkOf, ends-at, walked, goes-dropped, goes-gave-slice, goes-gave-ref, walk-meets}
-use Rattle.binary64.specs.Answer.{Answer, Wrote, left}
+use Rattle.binary64.specs.Answer.{Answer, answered, Wrote, left}
+use Rattle.binary64.proofs.Answers.{wrote-zero}
+use Rattle.proposals.specs.Demand.{ZeroIsNear, NearIsZero, Each}
 use Rattle.proposals.specs.Judgements.{judgements, zerosIn, told}
 use Rattle.proposals.specs.declared.Proposal.{Proposal}
 use Rattle.proposals.specs.declared.Judged.{Judged}
@@ -47,11 +50,12 @@ use Rattle.proposals.proofs.Proposal as P
 use Rattle.proposals.proofs.Judged as J
 use Rattle.proposals.proofs.Judged.Laws as J′
 use Rattle.proposals.proofs.Corners.{corners-row, corners-vals, corners-tell, corners-lawful, corners-make}
-use Rattle.proposals.proofs.Walk.{span, pairs-down, value-of, sets, lands-in, free-held, says-both, calls-one}
+use Rattle.proposals.proofs.Walk.{span, pairs-down, value-of, sets, lands-in, free-held, says-all, calls-one}
 use Rattle.proposals.proofs.check_proposals as face
 use Rattle.proposals.proofs.check_proposals.Symbol as face-def
 use Rattle.proposals.proofs.check_proposals.Symbol.{name as #face}
 use Rattle.proposals.proofs.check_proposals.Met as face-thm
+use Rattle.refusals.proofs.Numbers.{refusals-numbered}
 use Rattle.answers.proofs.put_judged as put
 use Rattle.answers.proofs.put_judged.Symbol as put-def
 use Rattle.answers.proofs.put_judged.Symbol.{name as #put}
@@ -128,6 +132,19 @@ module _ {M : Type 1} (𝓤 : URA M) (H : Heap 𝓤) (A : Atoms 𝓤) (W : Given
   abbrev found : Answer (List ℕ)
   found = judgements c ps (length os)
 
+  -- both halves of demand 3 for each record, where the list was judged
+  abbrev Sound : Judged → List ℕ → Type 0
+  Sound r new = (n : ℕ) → told r ≡ answered n → Each ZeroIsNear c ps new
+
+  abbrev Complete : Judged → List ℕ → Type 0
+  Complete r new = (n : ℕ) → told r ≡ answered n → Each NearIsZero c ps new
+
+  -- which 0 tells
+  judged : (r : Judged) (number new : ℕ) → told r ≡ zerosIn found → Wrote (told r) number old new → number ≡ 0 → told r ≡ answered new
+  judged r number new answers wrote zero =
+      answers ∙ wrote-zero _ (zerosIn found) number old new tt (refusals-numbered .ofProposals c ps (length os))
+      (subst (λ (a : Answer ℕ). Wrote a number old new) answers wrote) zero
+
   -- what the callees are passed
   abbrev to-face : Face 𝓤 H A mem run .Ghost
   to-face = (((κ₁, (κ₂, tt)), (q₁, (q₂, tt)), tt, (c, (list, (out, tt))), (corners-vals c, (vl ∷ [], (vo ∷ [], tt)))), tt)
@@ -168,9 +185,11 @@ module _ {M : Type 1} (𝓤 : URA M) (H : Heap 𝓤) (A : Atoms 𝓤) (W : Given
       calls-one ! (fmOf 𝓤 H (W .laws) 𝓣) face.ended (face.clauses 𝓤 H A mem run) (met .0) to-face
       (and-then ! (value-of ! 16 refl) (and-then ! (value-of ! 8 refl) (and-then ! (value-of ! 20 refl) (no-more !)))) (λ v r is.
       use1 W (some (λ (ws : Unit {0} × (Unit {0} × (List ℕ × Unit {0}))).
-      ‵ (lasts face.ended (κ₁, (κ₂, tt)) (c, (list, (out, tt))) ws) ⊛ raw (fact 𝓤 (told r ≡ zerosIn found)) ⊛ raw (fact 𝓤 (ws .1 .1 .0 ≡ left found os))))
+      ‵ (lasts face.ended (κ₁, (κ₂, tt)) (c, (list, (out, tt))) ws) ⊛ raw (fact 𝓤 (told r ≡ zerosIn found)) ⊛ raw (fact 𝓤 (ws .1 .1 .0 ≡ left found os))
+      ⊛ raw (fact 𝓤 (Sound r (ws .1 .1 .0))) ⊛ raw (fact 𝓤 (Complete r (ws .1 .1 .0)))))
       (id⊢ 𝓤 _) $ pick ! (λ ws.
-      split ! $ move ! (1 ∷ []) $ split ! $ heard ! (told r ≡ zerosIn found) (λ answers. heard ! (ws .1 .1 .0 ≡ left found os) (λ leaves.
+      split ! $ move ! (1 ∷ []) $ split ! $ heard ! (told r ≡ zerosIn found) (λ answers. split ! $ heard ! (ws .1 .1 .0 ≡ left found os) (λ leaves.
+      split ! $ heard ! (Sound r (ws .1 .1 .0)) (λ sound. heard ! (Complete r (ws .1 .1 .0)) (λ complete.
       fsplit ! $ drop ! $ fsplit ! $ drop ! $ fsplit ! $ fsplit ! $ move ! (1 ∷ []) $ feqL ! (λ same.
       -- `put_judged`: [the last numbers; true; tokens; the answer; what the count owns; the count's token; corners'; locals]
       lands-in ! (init ! 17 refl (EL.lawful J.the-type J′.the-laws 𝓤 H A W tt .typed r _ is .0)) $
@@ -187,11 +206,12 @@ module _ {M : Type 1} (𝓤 : URA M) (H : Heap 𝓤) (A : Atoms 𝓤) (W : Given
       free-held ! $ free-held ! $ free-held ! $ free-held ! $ free-held ! $ free-held ! $ free-held ! $ free-held ! $ free-held ! $ free-held ! $ free0 ! $
       suffices ! _ (ends-at 𝓤 H A self.ended stayed (self.clauses 𝓤 H A mem run) W bound w number
       (tt, (tt, (ws .1 .1 .0, (ws′ .1 .0, tt)))) (tt, (tt, (same, (tt, tt))))) $
-      says-both ! (subst (λ (a : Answer ℕ). Wrote a number old (ws′ .1 .0)) answers wrote) leaves $
+      says-all ! (subst (λ (a : Answer ℕ). Wrote a number old (ws′ .1 .0)) answers wrote) leaves
+      (λ zero. sound _ (judged r number (ws′ .1 .0) answers wrote zero)) (λ zero. complete _ (judged r number (ws′ .1 .0) answers wrote zero)) $
       move ! (4 ∷ []) $ use1 W (‵ (flft κ₁ q₁) ⊛ ‵ (flft κ₂ q₂) ⊛ ‵ ftrue) (id⊢ 𝓤 _) $ split ! $ move ! (1 ∷ []) $ split ! $
       move ! (0 ∷ 4 ∷ []) $ join ! $ move ! (2 ∷ 0 ∷ []) $ join ! $ move ! (5 ∷ 0 ∷ []) $ join ! $ frame ! $
       -- [true; the last count; the number; the last numbers]
-      move ! (3 ∷ 1 ∷ []) $ fjoin ! $ move ! (1 ∷ 0 ∷ []) $ fjoin ! $ nothing ! $ fjoin ! $ frame ! $ done !))))))))))))))))))))
+      move ! (3 ∷ 1 ∷ []) $ fjoin ! $ move ! (1 ∷ 0 ∷ []) $ fjoin ! $ nothing ! $ fjoin ! $ frame ! $ done !))))))))))))))))))))))
 
 meets : {M : Type 1} (𝓤 : URA M) (H : Heap 𝓤) (A : Atoms 𝓤) (W : Given 𝓤 H A) (mem : Memory → SProp 𝓤) (run : Routine → Fun 𝓤) (𝓣 : Tables 𝓤 H)
     → Known 𝓤 H A mem run 𝓣 → Meets 𝓤 H A self.signature (WpFn 𝓤 H (𝓣 .C) (𝓣 .Λ) code.function) (self.spec 𝓤 H A mem run)

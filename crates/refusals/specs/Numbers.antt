@@ -1,0 +1,37 @@
+-- The numbers by which each entry refuses, in the order in which they are looked for. 0 is none of them, so that an entry's 0 tells an answer
+-- (binary64: `ZeroTellsAnAnswer`). The claim only.
+use Prim.Native.Nat.{ℕ}
+use mathlib.Core.List.{List, [], _∷_}
+use lib.Ieee.{Float}
+use Rattle.binary64.specs.Answer.{RefusesBy}
+use Rattle.mat3_inverse.specs.Inverse.{inverse}
+use Rattle.hex_locate.specs.Locate as Hex
+use Rattle.prism_locate.specs.Locate as Prism
+use Rattle.hex_weighted_gradient.specs.Weighted.{weightedGradient}
+use Rattle.hex_volume.specs.Volume as HexVolume
+use Rattle.prism_volume.specs.Volume as PrismVolume
+use Rattle.hex_iso_mask.specs.Cut.{isoMask}
+use Rattle.hex_iso_position.specs.Position.{isoPosition}
+use Rattle.probe.specs.Check.{checked, locatedChecked}
+use Rattle.proposals.specs.Judgements.{judgements, zerosIn}
+use Rattle.proposals.specs.declared.Proposal.{Proposal}
+use Rattle.descendant.specs.Place.{descended}
+use Rattle.hxm.specs.Reads.{meshInto}
+use Rattle.refine.specs.Refine.{refined}
+
+-- Every entry that can refuse does so by one of these numbers, whatever it is asked. Those that are not listed refuse nothing.
+pub record RefusalsNumbered : Type 0 where
+  pub ofInverse : (m : List Float) → RefusesBy (1 ∷ []) (inverse m)
+  pub ofHexLocator : (p : List Float) → RefusesBy (1 ∷ 2 ∷ []) (Hex.located p)
+  pub ofPrismLocator : (p : List Float) → RefusesBy (1 ∷ 2 ∷ []) (Prism.located p)
+  pub ofGradient : (p points : List Float) (i j k : ℕ) → RefusesBy (8 ∷ 7 ∷ 9 ∷ []) (weightedGradient p points i j k)
+  pub ofHexVolume : (p points : List Float) → RefusesBy (8 ∷ 7 ∷ []) (HexVolume.volume p points)
+  pub ofPrismVolume : (p line triangle : List Float) → RefusesBy (8 ∷ 7 ∷ []) (PrismVolume.volumeAnswer p line triangle)
+  pub ofMask : (index : ℕ) → RefusesBy (9 ∷ []) (isoMask index)
+  pub ofPosition : (center : List Float) (halfWidth : Float) (a b : ℕ) (v w : Float) → RefusesBy (9 ∷ []) (isoPosition center halfWidth a b v w)
+  pub ofCheck : (p q : List Float) (t : Float) → RefusesBy (3 ∷ 4 ∷ 5 ∷ 6 ∷ []) (checked p q t)
+  pub ofLocator : (p : List Float) (t : Float) → RefusesBy (3 ∷ 4 ∷ 1 ∷ 2 ∷ 6 ∷ []) (locatedChecked p t)
+  pub ofProposals : (corners : List Float) (list : List Proposal) (room : ℕ) → RefusesBy (7 ∷ 8 ∷ []) (zerosIn (judgements corners list room))
+  pub ofDescendant : (path : List ℕ) (k : ℕ) → RefusesBy (7 ∷ 9 ∷ []) (descended path k)
+  pub ofFile : (coords corners : ℕ) (s : List ℕ) → RefusesBy (13 ∷ 11 ∷ 12 ∷ 7 ∷ 9 ∷ 10 ∷ 8 ∷ []) (meshInto coords corners s)
+  pub ofRefinement : (n : ℕ) (cells : List ℕ) (room : ℕ) → RefusesBy (7 ∷ 8 ∷ 9 ∷ 10 ∷ []) (refined n cells room)
