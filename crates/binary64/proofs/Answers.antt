@@ -1,4 +1,4 @@
--- Which numbers a ladder of refusals has, what 0 tells of its answer, and how it comes to one. Assumes nothing.
+-- How a ladder of refusals comes to an answer, what 0 tells of it, and which numbers the ladder has. Assumes nothing.
 use Prim.Native.Nat.{ℕ}
 use native.Mathlib.Omega.{arith}
 use mathlib.Core.Path.{_≡_, refl, sym, _∙_, subst}
@@ -36,20 +36,6 @@ pub then-answered : {A B : Type 0} (x : Answer A) (f : A → Answer B) (v : B) �
 then-answered (answered a) f v e = record { value = a; is = refl; next = e }
 then-answered (refused n) f v e = absurd (never n v e)
 
--- ---- the numbers of a ladder
-module _ {A : Type 0} (ns : List ℕ) where
-  pub refuses-unless : (b : Bool) (n : ℕ) (rest : Answer A) → T (isOneOf ns n) → RefusesBy ns rest → RefusesBy ns (cond b (refused n) rest)
-  refuses-unless true n rest one others = one
-  refuses-unless false n rest one others = others
-
-  pub refuses-else : (b : Bool) (a : A) (n : ℕ) → T (isOneOf ns n) → RefusesBy ns (cond b (answered a) (refused n))
-  refuses-else true a n one = tt
-  refuses-else false a n one = one
-
-  pub refuses-then : {B : Type 0} (x : Answer A) (f : A → Answer B) → RefusesBy ns x → ((a : A) → RefusesBy ns (f a)) → RefusesBy ns (andThen x f)
-  refuses-then (answered a) f one others = others a
-  refuses-then (refused n) f one others = one
-
 -- ---- what 0 tells
 none-is-zero : (ns : List ℕ) (n : ℕ) → T (not (isOneOf ns 0)) → T (isOneOf ns n) → n ≡ 0 → ⊥
 none-is-zero ns n without one zero = both (isOneOf ns 0) without (subst (λ (k : ℕ). T (isOneOf ns k)) zero one)
@@ -70,3 +56,17 @@ wrote-zero ns (refused n) r old new without one wrote zero = absurd (none-is-zer
 pub wrote-answered : {A : Type 0} (a : Answer A) (r : ℕ) (old new v : A) → Wrote a r old new → a ≡ answered v → (r ≡ 0) × (new ≡ v)
 wrote-answered (answered w) r old new v wrote e = (wrote .0, wrote .1 ∙ answered-same e)
 wrote-answered (refused n) r old new v wrote e = absurd (never n v e)
+
+-- ---- the numbers of a ladder
+module _ {A : Type 0} (ns : List ℕ) where
+  pub refuses-unless : (b : Bool) (n : ℕ) (rest : Answer A) → T (isOneOf ns n) → RefusesBy ns rest → RefusesBy ns (cond b (refused n) rest)
+  refuses-unless true n rest one others = one
+  refuses-unless false n rest one others = others
+
+  pub refuses-else : (b : Bool) (a : A) (n : ℕ) → T (isOneOf ns n) → RefusesBy ns (cond b (answered a) (refused n))
+  refuses-else true a n one = tt
+  refuses-else false a n one = one
+
+  pub refuses-then : {B : Type 0} (x : Answer A) (f : A → Answer B) → RefusesBy ns x → ((a : A) → RefusesBy ns (f a)) → RefusesBy ns (andThen x f)
+  refuses-then (answered a) f one others = others a
+  refuses-then (refused n) f one others = one

@@ -19,7 +19,7 @@ use Rattle.descendant.specs.Place.{octants, descended}
 use Rattle.hxm.specs.Format.{Mesh, headLength, marked, version, nodeCount, cellCount, fileLength, faultOf, meshAt, meshOf}
 use Rattle.hxm.specs.Reads.{meshInto}
 use Rattle.refine.specs.Refine.{refined}
-use Rattle.refusals.specs.Numbers.{RefusalsNumbered}
+use Rattle.refusals.specs.Numbers.{fileNumbers, refineNumbers, RefusalsNumbered}
 
 -- ---- the first fault of some cells is 0, 9 or 10
 abbrev ofCells : List ℕ
@@ -65,35 +65,29 @@ descended-refuses : (path : List ℕ) (k : ℕ) → RefusesBy (7 ∷ 9 ∷ []) (
 unfolding descended
 descended-refuses path k = refuses-unless (7 ∷ 9 ∷ []) (ltb 20 (length path)) 7 _ tt (refuses-else (7 ∷ 9 ∷ []) (octants path && ltb k 8) _ 9 tt)
 
-abbrev ofFile : List ℕ
-ofFile = 13 ∷ 11 ∷ 12 ∷ 7 ∷ 9 ∷ 10 ∷ 8 ∷ []
-
-mesh-refuses : (s : List ℕ) → RefusesBy ofFile (meshOf s)
+mesh-refuses : (s : List ℕ) → RefusesBy fileNumbers (meshOf s)
 unfolding meshOf faultOf
 mesh-refuses s =
-    refuses-unless ofFile (ltb (length s) headLength) 13 _ tt
-    (refuses-unless ofFile (not (marked s)) 11 _ tt
-    (refuses-unless ofFile (not (eqb (version s) 1)) 12 _ tt
-    (refuses-unless ofFile (ltb 1024 (nodeCount s) || ltb 128 (cellCount s)) 7 _ tt
-    (refuses-unless ofFile (not (eqb (length s) (fileLength s))) 13 _ tt
-    (unless-faulty ofFile (answered (meshAt s)) (faultOf s) tt tt tt (first-one-of (nodeCount s) 8 _ _))))))
+    refuses-unless fileNumbers (ltb (length s) headLength) 13 _ tt
+    (refuses-unless fileNumbers (not (marked s)) 11 _ tt
+    (refuses-unless fileNumbers (not (eqb (version s) 1)) 12 _ tt
+    (refuses-unless fileNumbers (ltb 1024 (nodeCount s) || ltb 128 (cellCount s)) 7 _ tt
+    (refuses-unless fileNumbers (not (eqb (length s) (fileLength s))) 13 _ tt
+    (unless-faulty fileNumbers (answered (meshAt s)) (faultOf s) tt tt tt (first-one-of (nodeCount s) 8 _ _))))))
 
-file-refuses : (coords corners : ℕ) (s : List ℕ) → RefusesBy ofFile (meshInto coords corners s)
+file-refuses : (coords corners : ℕ) (s : List ℕ) → RefusesBy fileNumbers (meshInto coords corners s)
 unfolding meshInto
 file-refuses coords corners s =
-    refuses-then ofFile (meshOf s) _ (mesh-refuses s) (λ m. refuses-unless ofFile (ltb coords (3 * m .nodes) || ltb corners (8 * m .cells)) 8 _ tt tt)
+    refuses-then fileNumbers (meshOf s) _ (mesh-refuses s) (λ m. refuses-unless fileNumbers (ltb coords (3 * m .nodes) || ltb corners (8 * m .cells)) 8 _ tt tt)
 
-abbrev ofRefinement : List ℕ
-ofRefinement = 7 ∷ 8 ∷ 9 ∷ 10 ∷ []
-
-refined-refuses : (n : ℕ) (cells : List ℕ) (room : ℕ) → RefusesBy ofRefinement (refined n cells room)
+refined-refuses : (n : ℕ) (cells : List ℕ) (room : ℕ) → RefusesBy refineNumbers (refined n cells room)
 unfolding refined
 refined-refuses n cells room =
-    refuses-unless ofRefinement (ltb 1024 n) 7 _ tt
-    (refuses-unless ofRefinement (ltb 1024 (length cells)) 7 _ tt
-    (refuses-unless ofRefinement (not (eqb (length cells % 8) 0)) 8 _ tt
-    (refuses-unless ofRefinement (ltb room (64 * (length cells / 8))) 8 _ tt
-    (unless-faulty ofRefinement _ (firstFault n 8 cells) tt tt tt (first-one-of n 8 cells (length cells / 8))))))
+    refuses-unless refineNumbers (ltb 1024 n) 7 _ tt
+    (refuses-unless refineNumbers (ltb 1024 (length cells)) 7 _ tt
+    (refuses-unless refineNumbers (not (eqb (length cells % 8) 0)) 8 _ tt
+    (refuses-unless refineNumbers (ltb room (64 * (length cells / 8))) 8 _ tt
+    (unless-faulty refineNumbers _ (firstFault n 8 cells) tt tt tt (first-one-of n 8 cells (length cells / 8))))))
 
 pub refusals-numbered : RefusalsNumbered
 refusals-numbered =

@@ -1,5 +1,5 @@
 -- The numbers by which each entry refuses, in the order in which they are looked for. 0 is none of them, so that an entry's 0 tells an answer
--- (binary64: `ZeroTellsAnAnswer`). The claim only.
+-- (binary64: `ZeroTellsAnAnswer`). Definitions and the claim only.
 use Prim.Native.Nat.{ℕ}
 use mathlib.Core.List.{List, [], _∷_}
 use lib.Ieee.{Float}
@@ -19,6 +19,14 @@ use Rattle.descendant.specs.Place.{descended}
 use Rattle.hxm.specs.Reads.{meshInto}
 use Rattle.refine.specs.Refine.{refined}
 
+-- "File: 13 if under 13 bytes, 11, 12, 7, 13, then cell by cell 9, 10, last 8"
+abbrev pub fileNumbers : List ℕ
+fileNumbers = 13 ∷ 11 ∷ 12 ∷ 7 ∷ 9 ∷ 10 ∷ 8 ∷ []
+
+-- "Refinement: 7 .., 8 .., then cell by cell 9 before 10"
+abbrev pub refineNumbers : List ℕ
+refineNumbers = 7 ∷ 8 ∷ 9 ∷ 10 ∷ []
+
 -- Every entry that can refuse does so by one of these numbers, whatever it is asked. Those that are not listed refuse nothing.
 pub record RefusalsNumbered : Type 0 where
   pub ofInverse : (m : List Float) → RefusesBy (1 ∷ []) (inverse m)
@@ -33,5 +41,5 @@ pub record RefusalsNumbered : Type 0 where
   pub ofLocator : (p : List Float) (t : Float) → RefusesBy (3 ∷ 4 ∷ 1 ∷ 2 ∷ 6 ∷ []) (locatedChecked p t)
   pub ofProposals : (corners : List Float) (list : List Proposal) (room : ℕ) → RefusesBy (7 ∷ 8 ∷ []) (zerosIn (judgements corners list room))
   pub ofDescendant : (path : List ℕ) (k : ℕ) → RefusesBy (7 ∷ 9 ∷ []) (descended path k)
-  pub ofFile : (coords corners : ℕ) (s : List ℕ) → RefusesBy (13 ∷ 11 ∷ 12 ∷ 7 ∷ 9 ∷ 10 ∷ 8 ∷ []) (meshInto coords corners s)
-  pub ofRefinement : (n : ℕ) (cells : List ℕ) (room : ℕ) → RefusesBy (7 ∷ 8 ∷ 9 ∷ 10 ∷ []) (refined n cells room)
+  pub ofFile : (coords corners : ℕ) (s : List ℕ) → RefusesBy fileNumbers (meshInto coords corners s)
+  pub ofRefinement : (n : ℕ) (cells : List ℕ) (room : ℕ) → RefusesBy refineNumbers (refined n cells room)
