@@ -43,7 +43,8 @@ RefusesBy ns (refused n) = T (isOneOf ns n)
 abbrev pub ZeroTellsAnAnswer : Type 0 → Type 0
 ZeroTellsAnAnswer A = (ns : List ℕ) (a : Answer A) → T (not (isOneOf ns 0)) → RefusesBy ns a → numberOf a ≡ 0 → (v : A) × (a ≡ answered v)
 
--- what is left of a lent list: "A refusal .. leaves lent buffers untouched. A success writes only what its rule names; the rest of an output keeps what it held."
+-- what is left of a lent list: "A refusal .. leaves lent buffers untouched. A success writes only what its rule names; the rest of an output keeps what it
+-- held."
 abbrev pub left : {A : Type 0} → Answer (List A) → List A → List A
 left (answered new) old = new ++ drop (length new) old
 left (refused n) old = old

@@ -97,8 +97,7 @@ fn decide(corners: &[f64; 24], at: Point, tolerance: f64) -> Verdict
 // What is handed over by value are floats that binary64 holds, and a caller that was lent them has it from here. It compiles to nothing.
 fn held(corners: [f64; 24])
     ensures { λ _. ⌜ Floats 24 corners ⌝ }
-{
-}
+{}
 
 // The check of corners that are lent. With M the largest corner size on an axis and e = 14 M / 2^53, an accepted place's exact image is at most T + e from
 // the probe on each axis; and a place whose exact image is at most T - e from it on each is accepted.

@@ -295,7 +295,8 @@ module _ {M : Type 1} (𝓤 : URA M) (H : Heap 𝓤) (A : Atoms 𝓤) (W : Given
           free1 ! $ free-held ! $ free1 ! $ free1 ! $ free1 ! $ free1 ! $ free0 ! $
           by ! (closes q′ (overwritten js os (i .0)) r v
           (said ∙ ap (λ (k : ℕ). unlessRefused n m (zeros (take k js))) last ∙ all-counted n m js (length-map ps (judgement c)))
-          (ap (overwritten js os) last ∙ all-written n m js (length-map ps (judgement c)) os) (subst (λ (j : ℕ). (k : ℕ) → k < j → Owes k) last (i .2)) (long (i .0) (i .1)) is))
+          (ap (overwritten js os) last ∙ all-written n m js (length-map ps (judgement c)) os)
+          (subst (λ (j : ℕ). (k : ℕ) → k < j → Owes k) last (i .2)) (long (i .0) (i .1)) is))
         where
           z : ℕ
           z = zeros (take (i .0) js)
