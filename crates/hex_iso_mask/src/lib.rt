@@ -1,7 +1,8 @@
 // hex.rs: `ISO_EDGE`, which edges of a cube the surface of value zero cuts.
 ghost use mathlib.Core.Path.{_≡_};
 ghost use Prim.Native.Nat.{_<_};
-ghost use Rattle.hex_iso_mask.specs.Cut.{maskOf, isoMask, maskTold};
+ghost use lib.ListN.{getD};
+ghost use Rattle.hex_iso_mask.specs.Cut.{isoEdge, isoMask, maskTold};
 
 // For each sign index the mask of the edges that are cut.
 pub const ISO_EDGE: [u32; 256] = [
@@ -272,7 +273,7 @@ pub enum IsoMask {
 // An entry of the table.
 fn iso_edge(cubeindex: u32) -> u32
     requires { ⌜ cubeindex < 256 ⌝ }
-    ensures { λ r. ⌜ r ≡ maskOf cubeindex ⌝ }
+    ensures { λ r. ⌜ r ≡ getD isoEdge cubeindex 0 ⌝ }
 {
     ISO_EDGE[cubeindex as usize]
 }
