@@ -20,6 +20,7 @@ use Rattle.hex.specs.Cube.{edges, idx2node, ring}
 use Rattle.numbering.specs.FirstMet.{among}
 use Rattle.numbering.specs.Refinement.{within, sameNodes, edgeNodes, faceNodes, OwnDiffer}
 use Rattle.numbering.specs.Keys.{apart, Nodes}
+use Rattle.numbering.proofs.Same.{faces-same}
 
 -- all of these are corners
 abbrev corners : List ℕ → Bool
@@ -112,7 +113,8 @@ pub own-parts-differ : OwnDiffer
 own-parts-differ =
     record {
       edgesDiffer = λ n cells c sound. own-differ n (node 8 cells c) sound 12 edgeRow tt tt;
-      facesDiffer = λ n cells c sound. own-differ n (node 8 cells c) sound 6 faceRow tt tt;
+      facesDiffer = λ n cells c sound i k less h.
+          faces-same (faceNodes cells c i) (faceNodes cells c k) ∙ own-differ n (node 8 cells c) sound 6 faceRow tt tt i k less h;
     }
 
 -- the tables hold corners

@@ -46,11 +46,6 @@ same-nodes =
       across = λ ps qs rs h k. by-members ps rs (λ x. members ps qs h x ∙ members qs rs k x);
     }
 
-self : (x : Thing) → same x x ≡ true
-self (edge ps) = same-nodes .self ps
-self (face ps) = same-nodes .self ps
-self (centre c) = eq-eqb c c refl
-
 swap : (x y : Thing) → same x y ≡ same y x
 swap (edge ps) (edge qs) = same-nodes .swap ps qs
 swap (edge ps) (face qs) = refl
@@ -61,6 +56,11 @@ swap (face ps) (centre d) = refl
 swap (centre c) (edge qs) = refl
 swap (centre c) (face qs) = refl
 swap (centre c) (centre d) = eqb-sym c d
+
+self : (x : Thing) → same x x ≡ true
+self (edge ps) = same-nodes .self ps
+self (face ps) = same-nodes .self ps
+self (centre c) = eq-eqb c c refl
 
 across : (x y z : Thing) → same x y ≡ true → same y z ≡ true → same x z ≡ true
 across (edge ps) (edge qs) (edge rs) h k = same-nodes .across ps qs rs h k
@@ -81,3 +81,7 @@ across (centre c) (centre d) (centre e) h k = rw (eqb-true c d h) k
 
 pub same-things : SameThings
 same-things = record { self = self; swap = swap; across = across }
+
+-- faces are told apart by their nodes
+pub faces-same : (ps qs : List ℕ) → same (face ps) (face qs) ≡ sameNodes ps qs
+faces-same ps qs = refl
