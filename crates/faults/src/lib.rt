@@ -77,13 +77,14 @@ pub fn first_fault(n: u32, cells: &[u32]) -> u32
     ensures { λ r. ⌜ r ≡ firstFault n 8 (now (cells .entry)) ⌝ }
 {
     let count = cells.len() / 8;
+    let mut fault: u32 = 0;
     let mut c: usize = 0;
     while c < count {
-        let fault = fault_of(n, cell_at(cells, c));
         if fault != 0 {
             return fault;
         }
+        fault = fault_of(n, cell_at(cells, c));
         c += 1;
     }
-    0
+    fault
 }

@@ -1,4 +1,4 @@
--- `faults::first_fault` meets its contract: the cells before c have no fault. Assumes nothing.
+-- `faults::first_fault` meets its contract: the fault held is that of the cells before c, and once there is one the loop ends. Assumes nothing.
 use Prim.Native.Nat.{ℕ, _+_, _-_, _/_, _≤_}
 use native.Mathlib.Omega.{arith}
 use mathlib.Core.Path.{_≡_, refl, sym, _∙_, ap}
@@ -13,10 +13,10 @@ use Rattle.faults.proofs.first_fault.Statement.{statement}
 use Rattle.faults.proofs.first_fault.Tie as tie
 
 abbrev Inv-loop : tie.InvT-loop
-Inv-loop n cells count c₀ c = (c ≤ length cells / 8) × (firstTo n 8 cells c ≡ 0)
+Inv-loop n cells count fault₀ c₀ held c = (c ≤ length cells / 8) × (firstTo n 8 cells c ≡ held)
 
 abbrev μ-loop : tie.MeasureT-loop
-μ-loop n cells count c₀ c = count - c
+μ-loop n cells count fault₀ c₀ held c = count - c
 
 -- the fault of a copy is the cell's
 copied : (n c f : ℕ) (cells cell : List ℕ) → cell ≡ tabulate 8 (node 8 cells c) → f ≡ fault n 8 (names cell) → f ≡ faultAt n 8 cells c
@@ -29,25 +29,20 @@ loop-holds : tie.Need-loop-holds Inv-loop μ-loop
 unfolding firstTo
 loop-holds c = (omega arith, refl)
 
-looked : (c : tie.After-fault-of Inv-loop μ-loop)
-    → let turn = c .before .before .before in
-    let args = turn .before .before .args in
-    c .fault-of .result ≡ faultAt (args .n) 8 (args .cells .now) (turn .loop .c)
-looked c = copied _ _ _ _ _ (c .before .cell-at .ensures) (c .fault-of .ensures)
-
 returns : tie.Need-returns Inv-loop μ-loop
 returns c =
-    let turn = c .before .before .before .before in
+    let turn = c .before .before in
     let args = turn .before .before .args in
     let cells = args .cells .now in
-    let found = first-more (args .n) 8 cells (turn .loop .c) _ (turn .loop .inv .1) (looked (c .before)) in
-    sym (first-stays (args .n) 8 cells (turn .loop .c + 1) (length cells / 8) _ (omega arith) (c .if1 .taken) found)
+    sym (first-stays (args .n) 8 cells (turn .loop .c) (length cells / 8) (turn .loop .fault) (omega arith) (omega arith) (turn .loop .inv .1))
 
 loop-again : tie.Need-loop-again Inv-loop μ-loop
 loop-again c =
     let turn = c .before .before .before .before in
     let args = turn .before .before .args in
-    (omega arith, first-more (args .n) 8 (args .cells .now) (turn .loop .c) _ (turn .loop .inv .1) (looked (c .before)) ∙ c .if1 .left)
+    let none : turn .loop .fault ≡ 0 = omega arith in
+    let looked = copied _ _ _ _ _ (c .before .cell-at .ensures) (c .fault-of .ensures) in
+    (omega arith, first-more (args .n) 8 (args .cells .now) (turn .loop .c) _ (turn .loop .inv .1 ∙ none) looked)
 
 returns-2 : tie.Need-returns-2 Inv-loop μ-loop
 returns-2 c =
@@ -61,9 +56,9 @@ first-fault-spec =
     Inv-loop
     μ-loop
     loop-holds
-    (λ c κs. search needs)
-    (λ c κs. search needs)
     returns
+    (λ c κs. search needs)
+    (λ c κs. search needs)
     (λ c. search needs)
     (λ c. search needs)
     loop-again
