@@ -111,13 +111,15 @@ fn refine_cells(n: u32, cells: &[u32], out: &mut [u32]) -> u32
     let mut faces = [0u32; 768];
     let mut free = n;
     let count = cells.len() / 8;
-    for cell in 0..count {
+    let mut cell: usize = 0;
+    while cell < count {
         free = number(&edge_keys, &mut edges, 12, cell, free);
         free = number(&face_keys, &mut faces, 6, cell, free);
         let start = 64 * cell;
         let end = start + 64;
         write_children(&mut out[start..end], cells, &edges, &faces, cell, free);
         free += 1;
+        cell += 1;
     }
     free
 }

@@ -1,46 +1,57 @@
 -- `refine::refine` meets its contract: the code climbs the definition's ladder. Assumes nothing.
+use Prim.Native.Nat.{_*_, _/_, _%_}
+use native.Mathlib.Omega.{arith}
 use mathlib.Core.Path.{refl}
 use borrow.Author.Needs.{needs}
 use borrow.Author.Tests.{lt-ltb, le-ltb, eq-eqb, ne-eqb}
+use lib.ListN.{length}
 use Rattle.refine.specs.Refine.{refined}
 use Rattle.refine.proofs.refine.Statement.{statement}
 use Rattle.refine.proofs.refine.Tie as tie
 
 returns : tie.Need-returns
 unfolding refined
-returns c = (simp (lt-ltb _ _ (c .if1 .taken)), refl)
+returns c = (simp (lt-ltb 1024 (c .before .before .before .args .n) (omega arith)), refl)
 
 returns-2 : tie.Need-returns-2
 unfolding refined
-returns-2 c = (simp (le-ltb _ _ (c .before .if1 .left), lt-ltb _ _ (c .if2 .taken)), refl)
+returns-2 c =
+    let args = c .before .before .before .before .args in
+    (simp (le-ltb 1024 (args .n) (omega arith), lt-ltb 1024 (length (args .cells .now)) (omega arith)), refl)
 
 returns-3 : tie.Need-returns-3
 unfolding refined
 returns-3 c =
-    (simp (le-ltb _ _ (c .before .before .if1 .left), le-ltb _ _ (c .before .if2 .left), ne-eqb _ _ (c .if3 .taken)), refl)
+    let args = c .before .before .before .before .before .args in
+    let long = length (args .cells .now) in
+    (simp (le-ltb 1024 (args .n) (omega arith), le-ltb 1024 long (omega arith), ne-eqb (long % 8) 0 (omega arith)), refl)
 
 returns-4 : tie.Need-returns-4
 unfolding refined
 returns-4 c =
-    let whole = c .before in
-    let short = whole .before in (
-      simp (le-ltb _ _ (short .before .if1 .left), le-ltb _ _ (short .if2 .left), eq-eqb _ _ (whole .if3 .left), lt-ltb _ _ (c .if4 .taken)),
+    let args = c .before .before .before .before .before .before .args in
+    let long = length (args .cells .now) in (
+      simp (
+        le-ltb 1024 (args .n) (omega arith),
+        le-ltb 1024 long (omega arith),
+        eq-eqb (long % 8) 0 (omega arith),
+        lt-ltb (length (args .out .now)) (64 * (long / 8)) (omega arith),
+      ),
       refl,
     )
 
 returns-5 : tie.Need-returns-5
 unfolding refined
 returns-5 c =
-    let roomy = c .before .before in
-    let whole = roomy .before in
-    let short = whole .before in (
+    let args = c .before .before .before .before .before .before .before .before .args in
+    let long = length (args .cells .now) in (
       simp (
-        le-ltb _ _ (short .before .if1 .left),
-        le-ltb _ _ (short .if2 .left),
-        eq-eqb _ _ (whole .if3 .left),
-        le-ltb _ _ (roomy .if4 .left),
+        le-ltb 1024 (args .n) (omega arith),
+        le-ltb 1024 long (omega arith),
+        eq-eqb (long % 8) 0 (omega arith),
+        le-ltb (length (args .out .now)) (64 * (long / 8)) (omega arith),
         ← c .before .first-fault .ensures,
-        ne-eqb _ _ (c .if5 .taken),
+        ne-eqb (c .before .first-fault .result) 0 (omega arith),
       ),
       refl,
     )
@@ -50,16 +61,15 @@ unfolding refined
 returns-6 c =
     let refined-all = c .before .before in
     let sound = refined-all .before .before in
-    let roomy = sound .before .before in
-    let whole = roomy .before in
-    let short = whole .before in (
+    let args = sound .before .before .before .before .before .before .before .before .args in
+    let long = length (args .cells .now) in (
       simp (
-        le-ltb _ _ (short .before .if1 .left),
-        le-ltb _ _ (short .if2 .left),
-        eq-eqb _ _ (whole .if3 .left),
-        le-ltb _ _ (roomy .if4 .left),
+        le-ltb 1024 (args .n) (omega arith),
+        le-ltb 1024 long (omega arith),
+        eq-eqb (long % 8) 0 (omega arith),
+        le-ltb (length (args .out .now)) (64 * (long / 8)) (omega arith),
         ← sound .before .first-fault .ensures,
-        eq-eqb _ _ (sound .if5 .left),
+        eq-eqb (sound .before .first-fault .result) 0 (omega arith),
         ← refined-all .refine-cells .ensures .0,
       ),
       refined-all .refine-cells .ensures .1,

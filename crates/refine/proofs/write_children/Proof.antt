@@ -3,7 +3,7 @@ use native.Mathlib.Omega.{arith}
 use borrow.Author.Needs.{needs}
 use mathlib.Core.Path.{ap, _∙_}
 use lib.ListN.{length}
-use Rattle.refine.specs.Search.{childrenOf}
+use Rattle.refine.specs.Search.{row, childrenOf}
 use Rattle.refine.proofs.Output.{same-children}
 use Rattle.refine.proofs.Search.{copied}
 use Rattle.refine.proofs.write_children.Statement.{statement}
@@ -18,12 +18,19 @@ returns c =
     let second = third .before .before .before in
     let first = second .before .before .before in
     let start = first .before .before .before .before .before .before in
+    let args = start .args in
     let numbers = divided .subdivide .ensures in
     let long = ap length numbers in
     written .copy-row4 .ensures
-    ∙ copied (divided .subdivide .result) (length (start .args .part .now)) (omega (arith, long))
+    ∙ copied (divided .subdivide .result) (length (args .part .now)) (omega (arith, long))
     ∙ numbers
-    ∙ same-children (first .copy-row .ensures) (second .copy-row2 .ensures) (third .copy-row3 .ensures)
+    ∙ same-children
+    {corner′ = row 8 (args .cells .now) (args .cell)}
+    {edge′ = row 12 (args .edges .now) (args .cell)}
+    {quad′ = row 6 (args .faces .now) (args .cell)}
+    (first .copy-row .ensures)
+    (second .copy-row2 .ensures)
+    (third .copy-row3 .ensures)
 
 pub write-children-spec : {M : Type 1} → statement M
 write-children-spec =
