@@ -1,3 +1,4 @@
 pub mod Binary64
 pub mod Answer
 pub mod Exact
+pub mod Constants
