@@ -1,3 +1,4 @@
+pub mod Arithmetic
 pub mod Bits
 pub mod Little
 pub mod Rule

@@ -1,0 +1,6 @@
+pub mod Ring
+pub mod Expression
+pub mod Expand
+pub mod Collect
+pub mod Solve
+pub mod Slopes
