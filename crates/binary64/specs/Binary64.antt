@@ -5,6 +5,7 @@ use mathlib.Core.List.{List}
 use lib.ListN.{getD}
 use lib.Ieee as Ieee
 use lib.Ieee.{Float, nan, binary64}
+use Rattle.numbers.specs.Arithmetic.{Arithmetic}
 
 infixl 75 _⊕_
 infixl 75 _⊖_
@@ -47,3 +48,7 @@ _!_ l k = getD l k nan
 -- "plus or minus zero, never for NaN or infinity"
 abbrev pub isZero : Float → Bool
 isZero x = Ieee.eq x f0
+
+-- these as an arithmetic, for formulas that are read in whole numbers too
+abbrev pub floats : Arithmetic Float
+floats = record { zero = f0; one = f1; neg = Ieee.neg; _⊕_ = _⊕_; _⊖_ = _⊖_; _⊗_ = _⊗_; _!_ = _!_ }

@@ -32,5 +32,5 @@ expressions =
       _⊕_ = _⊞_;
       _⊖_ = λ (a b : Expression). a ⊞ minus b;
       _⊗_ = _⊠_;
-      _!_ = λ (l : List Expression) (k : ℕ). getD l k (number (pos 0))
+      _!_ = λ (l : List Expression) (k : ℕ). getD l k (number (pos 0));
     }

@@ -12,10 +12,10 @@ pub record Fraction (A : Type 0) : Type 0 where
 
 module _ {A : Type 0} (a : Arithmetic A) where
   open Arithmetic a using (zero, one, neg, _⊕_, _⊖_, _⊗_)
+
   infixl 75 _⊕_
   infixl 75 _⊖_
   infixl 80 _⊗_
-
   abbrev pub whole : A → Fraction A
   whole x = record { top = x; bottom = one }
 
@@ -28,7 +28,7 @@ module _ {A : Type 0} (a : Arithmetic A) where
         _⊕_ = λ (x y : Fraction A). record { top = x .top ⊗ y .bottom ⊕ y .top ⊗ x .bottom; bottom = x .bottom ⊗ y .bottom };
         _⊖_ = λ (x y : Fraction A). record { top = x .top ⊗ y .bottom ⊖ y .top ⊗ x .bottom; bottom = x .bottom ⊗ y .bottom };
         _⊗_ = λ (x y : Fraction A). record { top = x .top ⊗ y .top; bottom = x .bottom ⊗ y .bottom };
-        _!_ = λ (l : List (Fraction A)) (k : ℕ). getD l k (whole zero)
+        _!_ = λ (l : List (Fraction A)) (k : ℕ). getD l k (whole zero);
       }
 
   abbrev pub quotient : Fraction A → Fraction A → Fraction A

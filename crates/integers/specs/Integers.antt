@@ -15,5 +15,5 @@ integers =
       _⊕_ = _+ℤ_;
       _⊖_ = _-ℤ_;
       _⊗_ = _*ℤ_;
-      _!_ = λ (l : List ℤ) (k : ℕ). getD l k (pos 0)
+      _!_ = λ (l : List ℤ) (k : ℕ). getD l k (pos 0);
     }

@@ -11,9 +11,9 @@ use Rattle.integers.specs.Integers.{integers}
 
 module _ {A : Type 0} (a : Arithmetic A) where
   open Arithmetic a using (_⊕_, _!_)
+
   infixl 75 _⊕_
   infixl 90 _!_
-
   -- the place q, h further along axis j
   abbrev pub moved : List A → ℕ → A → List A
   moved q j h = tabulate 3 (λ (i : ℕ). cond (eqb i j) (q ! i ⊕ h) (q ! i))
