@@ -1,26 +1,51 @@
--- The inverse of a 3 by 3 matrix of floats, by its cofactors: document 01, "Four matrix functions of 002". Definitions and claims only.
+-- The inverse of a 3 by 3 matrix, by its cofactors: document 01, "Four matrix functions of 002". Definitions and claims only.
 use Prim.Native.Nat.{ℕ, _+_, min, max}
+use mathlib.Core.Path.{_≡_}
 use mathlib.Core.Bool.{cond}
 use mathlib.Core.List.{List, [], _∷_}
 use lib.Ieee.{Float}
-use Rattle.binary64.specs.Binary64.{_⊖_, _⊗_, _⊘_, _!_, f1, isZero}
+use lib.IntN.{ℤ, _*ℤ_}
+use Rattle.numbers.specs.Rule.{tabulate}
+use Rattle.numbers.specs.Arithmetic.{Arithmetic}
+use Rattle.integers.specs.Integers.{integers}
+use Rattle.binary64.specs.Binary64.{_⊘_, f1, isZero, floats}
 use Rattle.binary64.specs.Answer.{Answer, answered, refused, LosesNothing}
-use Rattle.mat3_col_major.specs.Mat3.{place, matrix, det}
+use Rattle.mat3_col_major.specs.Mat3.{place, matrix, entry, productIn, detIn, det, diagonal}
 use Rattle.mat3_inverse.specs.declared.Inverse.{Inverse}
 use Rattle.mat3_inverse.specs.declared.Inverse.the-variants.{Of, ZeroDeterminant}
 
--- the product of the entries at two places, the earlier place first
-abbrev pub both : List Float → ℕ → ℕ → Float
-both m a b = m ! min a b ⊗ m ! max a b
+-- The formulas, in any arithmetic: the code's is that of floats, and the claim is made in whole numbers.
+module _ {A : Type 0} (a : Arithmetic A) where
+  open Arithmetic a using (_⊖_, _⊗_, _!_)
 
--- what is left of the determinant where row i and column j are taken out, with its sign
-abbrev pub cofactor : List Float → ℕ → ℕ → Float
-cofactor m i j =
-    both m (place (i + 1) (j + 1)) (place (i + 2) (j + 2)) ⊖ both m (place (i + 1) (j + 2)) (place (i + 2) (j + 1))
+  infixl 75 _⊖_
+  infixl 80 _⊗_
+  infixl 90 _!_
+  -- the product of the entries at two places, the earlier place first
+  abbrev pub both : List A → ℕ → ℕ → A
+  both m p q = m ! min p q ⊗ m ! max p q
 
--- the cofactors, transposed, each times s
+  -- what is left of the determinant where row i and column j are taken out, with its sign
+  abbrev pub cofactor : List A → ℕ → ℕ → A
+  cofactor m i j =
+      both m (place (i + 1) (j + 1)) (place (i + 2) (j + 2)) ⊖ both m (place (i + 1) (j + 2)) (place (i + 2) (j + 1))
+
+  -- the cofactors, transposed, each times s
+  abbrev pub scaledCofactorsIn : A → List A → List A
+  scaledCofactorsIn s m = matrix (λ (i j : ℕ). s ⊗ cofactor m j i)
+
+  -- the product of two matrices: m times each column of n
+  abbrev pub times : List A → List A → List A
+  times m n = matrix (λ (i j : ℕ). productIn a m (tabulate 3 (λ (k : ℕ). entry a n k j)) ! i)
+
 abbrev pub scaledCofactors : Float → List Float → List Float
-scaledCofactors s m = matrix (λ (i j : ℕ). s ⊗ cofactor m j i)
+scaledCofactors = scaledCofactorsIn floats
+
+-- In whole numbers a matrix times these is s times its determinant on the diagonal, and zero elsewhere: with one over the determinant for s, they are its
+-- inverse.
+abbrev pub CofactorsInvert : Type 0
+CofactorsInvert =
+    (s : ℤ) (m : List ℤ) → times integers m (scaledCofactorsIn integers s m) ≡ diagonal integers (s *ℤ detIn integers m)
 
 -- "The last gives none when the determinant is plus or minus zero, never for NaN or infinity."
 unfoldable pub inverse : List Float → Answer (List Float)
