@@ -1,38 +1,59 @@
--- The shape values of the cube and their slopes. A place is three floats. Definitions and claims only.
+-- The shape values of the cube and their slopes. A place is three numbers. Definitions and claims only.
 use Prim.Native.Nat.{ℕ, _<_}
 use mathlib.Core.Path.{_≡_}
 use mathlib.Core.Bool.{Bool, cond}
 use mathlib.Core.List.{List, [], _∷_}
 use lib.Dec.{eqb}
-use lib.Ieee.{Float, neg}
+use lib.Ieee.{Float}
+use lib.IntN.{pos}
 use lib.ListN.{getD}
 use Rattle.numbers.specs.Rule.{tabulate, grid, without}
-use Rattle.binary64.specs.Binary64.{_⊕_, _⊖_, _⊗_, _⊘_, _!_, f0, f1, f2}
+use Rattle.numbers.specs.Arithmetic.{Arithmetic}
+use Rattle.integers.specs.Integers.{integers}
+use Rattle.integers.specs.Slopes.{SlopesOf}
+use Rattle.binary64.specs.Binary64.{_⊗_, _⊘_, f0, f1, f2, floats}
 use Rattle.hex.specs.Cube.{upper, hexSign}
 
 -- one eighth, worked out as the source does
 abbrev pub one8 : Float
 one8 = f1 ⊘ (f2 ⊗ f2 ⊗ f2)
 
--- one plus or minus a coordinate, by the corner's sign on its axis
-abbrev pub side : Bool → Float → Float
-side up r = cond up (f1 ⊕ r) (f1 ⊖ r)
-
--- x times the sides of corner k along these axes, in their order
-abbrev pub timesSides : List Float → ℕ → Float → List ℕ → Float
-timesSides q k x [] = x
-timesSides q k x (i ∷ is) = timesSides q k (x ⊗ side (upper k i) (q ! i)) is
-
 abbrev pub axes : List ℕ
 axes = 0 ∷ 1 ∷ 2 ∷ []
 
--- the shape value of corner k: one eighth times its three sides
-abbrev pub shapeAt : List Float → ℕ → Float
-shapeAt q k = timesSides q k one8 axes
+-- The formulas, in any arithmetic with its eighth: the code's is that of floats, and the last claim is made in whole numbers.
+module _ {A : Type 0} (a : Arithmetic A) where
+  open Arithmetic a using (one, neg, _⊕_, _⊖_, _⊗_, _!_)
 
--- its slope along axis j: one eighth with the corner's sign there, times the sides of the other two axes
+  infixl 75 _⊕_
+  infixl 75 _⊖_
+  infixl 80 _⊗_
+  infixl 90 _!_
+  -- one plus or minus a coordinate, by the corner's sign on its axis
+  abbrev pub sideIn : Bool → A → A
+  sideIn up r = cond up (one ⊕ r) (one ⊖ r)
+
+  -- x times the sides of corner k along these axes, in their order
+  abbrev pub timesSides : List A → ℕ → A → List ℕ → A
+  timesSides q k x [] = x
+  timesSides q k x (i ∷ is) = timesSides q k (x ⊗ sideIn (upper k i) (q ! i)) is
+
+  -- the shape value of corner k: one eighth times its three sides
+  abbrev pub shapeIn : A → List A → ℕ → A
+  shapeIn eighth q k = timesSides q k eighth axes
+
+  -- its slope along axis j: one eighth with the corner's sign there, times the sides of the other two axes
+  abbrev pub slopeIn : A → List A → ℕ → ℕ → A
+  slopeIn eighth q k j = timesSides q k (cond (upper k j) eighth (neg eighth)) (without j axes)
+
+abbrev pub side : Bool → Float → Float
+side = sideIn floats
+
+abbrev pub shapeAt : List Float → ℕ → Float
+shapeAt = shapeIn floats one8
+
 abbrev pub slopeAt : List Float → ℕ → ℕ → Float
-slopeAt q k j = timesSides q k (cond (upper k j) one8 (neg one8)) (without j axes)
+slopeAt = slopeIn floats one8
 
 abbrev pub shape : List Float → List Float
 shape q = tabulate 8 (shapeAt q)
@@ -45,3 +66,7 @@ slopes q = grid 8 3 (slopeAt q)
 abbrev pub CornersOfTheShape : Type 0
 CornersOfTheShape =
     (k : ℕ) → k < 8 → shape (getD hexSign k []) ≡ tabulate 8 (λ (j : ℕ). cond (eqb j k) f1 f0)
+
+-- In eighths, and there in whole numbers, the slopes are those of the shape values.
+abbrev pub SlopesOfTheShape : Type 0
+SlopesOfTheShape = SlopesOf 8 (shapeIn integers (pos 1)) (slopeIn integers (pos 1))

@@ -21,11 +21,11 @@ module _ {A : Type 0} (a : Arithmetic A) where
   rises n slope q h = grid n 3 (λ (k j : ℕ). a ._⊗_ h (slope q k j))
 
 -- h is variable 0, and the place is the next three
-abbrev pub h : Expression
-h = var 0
+abbrev pub H : Expression
+H = var 0
 
-abbrev pub q : List Expression
-q = var 1 ∷ var 2 ∷ var 3 ∷ []
+abbrev pub Q : List Expression
+Q = var 1 ∷ var 2 ∷ var 3 ∷ []
 
 pub slopes-of : (n : ℕ) (value : List ℤ → ℕ → ℤ) (slope : List ℤ → ℕ → ℕ → ℤ)
     → ((q : List ℤ) (h : ℤ) → changes integers n value q h ≡ rises integers n slope q h) → SlopesOf n value slope
