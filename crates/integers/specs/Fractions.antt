@@ -1,8 +1,6 @@
 -- Fractions of an arithmetic's numbers, not reduced, as an arithmetic with a division. Definitions only.
 use Prim.Native.Nat.{ℕ}
-use mathlib.Core.Path.{_≡_}
 use mathlib.Core.List.{List}
-use lib.IntN.{ℤ, _*ℤ_}
 use lib.ListN.{getD}
 use Rattle.numbers.specs.Arithmetic.{Arithmetic}
 
@@ -16,6 +14,7 @@ module _ {A : Type 0} (a : Arithmetic A) where
   infixl 75 _⊕_
   infixl 75 _⊖_
   infixl 80 _⊗_
+  -- a number, over one
   abbrev pub whole : A → Fraction A
   whole x = record { top = x; bottom = one }
 
@@ -33,7 +32,3 @@ module _ {A : Type 0} (a : Arithmetic A) where
 
   abbrev pub quotient : Fraction A → Fraction A → Fraction A
   quotient x y = record { top = x .top ⊗ y .bottom; bottom = x .bottom ⊗ y .top }
-
--- two fractions are one number
-abbrev pub Equal : Fraction ℤ → Fraction ℤ → Type 0
-Equal x y = x .top *ℤ y .bottom ≡ y .top *ℤ x .bottom
