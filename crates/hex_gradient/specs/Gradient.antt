@@ -20,7 +20,7 @@ module _ {A : Type 0} (a : Arithmetic A) where
 
   infixl 75 _⊕_
   infixl 75 _⊖_
-  -- the determinant of the Jacobian as the gradient has it, in any arithmetic: the six products of `det`, the last two taken off in the other order
+  -- the determinant of the Jacobian as the gradient has it, in every arithmetic: the six products of `det`, the last two taken off in the other order
   abbrev pub gradientDetIn : List A → A
   gradientDetIn jac =
       term a jac 0 1 2 ⊕ term a jac 1 2 0 ⊕ term a jac 2 0 1 ⊖ term a jac 0 2 1 ⊖ term a jac 1 0 2 ⊖ term a jac 2 1 0

@@ -21,7 +21,7 @@ use Rattle.hex_iso_position.specs.declared.IsoPosition.the-variants.{At,
 abbrev pub sign : ℕ → List Float
 sign k = getD hexSign k []
 
--- The formulas, in any arithmetic with a division: the code's is that of floats, and the claim is made in fractions of whole numbers.
+-- The formulas, one text for every arithmetic: in floats it is what the code computes, in fractions of whole numbers what is claimed below.
 module _ {A : Type 0} (a : Arithmetic A) where
   open Arithmetic a using (neg, _⊕_, _⊖_, _⊗_, _!_)
 

@@ -21,7 +21,7 @@ one8 = f1 ⊘ (f2 ⊗ f2 ⊗ f2)
 abbrev pub axes : List ℕ
 axes = 0 ∷ 1 ∷ 2 ∷ []
 
--- The formulas, in any arithmetic with its eighth: the code's is that of floats, and the last claim is made in whole numbers.
+-- The formulas, one text for every arithmetic: in floats it is what the code computes, in whole numbers what the last claim is about.
 module _ {A : Type 0} (a : Arithmetic A) where
   open Arithmetic a using (one, neg, _⊕_, _⊖_, _⊗_, _!_)
 
@@ -67,6 +67,6 @@ abbrev pub CornersOfTheShape : Type 0
 CornersOfTheShape =
     (k : ℕ) → k < 8 → shape (getD hexSign k []) ≡ tabulate 8 (λ (j : ℕ). cond (eqb j k) f1 f0)
 
--- In eighths, and there in whole numbers, the slopes are those of the shape values.
+-- In whole numbers, where the eighth is counted as one, the slopes are those of the shape values.
 abbrev pub SlopesOfTheShape : Type 0
 SlopesOfTheShape = SlopesOf 8 (shapeIn integers (pos 1)) (slopeIn integers (pos 1))

@@ -1,16 +1,15 @@
 -- That slopes are those of their values is one list of equations, solved at once. Assumes nothing.
-use Prim.Native.Nat.{ℕ, _+_, _*_, _/_, _%_, _<_}
+use Prim.Native.Nat.{ℕ, _+_, _*_, _/_, _%_}
 use native.Mathlib.Omega.{arith}
 use mathlib.Core.Path.{_≡_}
 use mathlib.Core.List.{List, [], _∷_}
-use lib.Dec.{T}
 use lib.IntN.{ℤ, _-ℤ_, _*ℤ_}
 use Rattle.numbers.specs.Rule.{grid}
 use Rattle.numbers.specs.Arithmetic.{Arithmetic}
 use Rattle.numbers.proofs.Tabulate.{tabulate-same}
 use Rattle.integers.specs.Integers.{integers}
 use Rattle.integers.specs.Slopes.{moved, SlopesOf}
-use Rattle.integers.proofs.Expression.{Expression, var, expressions}
+use Rattle.integers.proofs.Expression.{Expression, var}
 
 -- corner by corner, three each: the changes of the values, and h times the slopes
 module _ {A : Type 0} (a : Arithmetic A) where

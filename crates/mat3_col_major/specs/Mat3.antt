@@ -19,7 +19,7 @@ place i j = i % 3 + 3 * (j % 3)
 abbrev pub matrix : {A : Type 0} → (ℕ → ℕ → A) → List A
 matrix f = grid 3 3 (λ (j i : ℕ). f i j)
 
--- The formulas, in any arithmetic: the code's is that of floats, and claims are made in whole numbers.
+-- The formulas, one text for every arithmetic: in floats it is what the code computes, in whole numbers what is claimed below.
 module _ {A : Type 0} (a : Arithmetic A) where
   open Arithmetic a using (zero, _⊕_, _⊖_, _⊗_, _!_)
 

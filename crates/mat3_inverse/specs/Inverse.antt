@@ -14,7 +14,7 @@ use Rattle.mat3_col_major.specs.Mat3.{place, matrix, entry, productIn, detIn, d
 use Rattle.mat3_inverse.specs.declared.Inverse.{Inverse}
 use Rattle.mat3_inverse.specs.declared.Inverse.the-variants.{Of, ZeroDeterminant}
 
--- The formulas, in any arithmetic: the code's is that of floats, and the claim is made in whole numbers.
+-- The formulas, one text for every arithmetic: in floats it is what the code computes, in whole numbers what is claimed below.
 module _ {A : Type 0} (a : Arithmetic A) where
   open Arithmetic a using (_⊖_, _⊗_, _!_)
 

@@ -21,7 +21,7 @@ unit c i = cond (eqb c (suc i)) f1 f0
 abbrev pub places : List (List Float)
 places = tabulate 6 (λ (k : ℕ). unit (column k) 0 ∷ unit (column k) 1 ∷ unit (level k) 0 ∷ [])
 
--- The formulas, in any arithmetic: the code's is that of floats, and the last claim is made in whole numbers.
+-- The formulas, one text for every arithmetic: in floats it is what the code computes, in whole numbers what the last claim is about.
 module _ {A : Type 0} (a : Arithmetic A) where
   open Arithmetic a using (zero, one, neg, _⊕_, _⊖_, _⊗_, _!_)
 
