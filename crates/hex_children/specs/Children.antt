@@ -34,3 +34,7 @@ children corner edge quad center = grid 8 8 (λ (i k : ℕ). number corner edge 
 abbrev pub NodesOfTheGrid : Type 0
 NodesOfTheGrid =
     (place : ℕ) → place < 27 → count 27 (λ (n : ℕ). eqb (middle end (getD nodes n [])) place) ≡ 1
+
+-- Every corner of a child is one of the 27 nodes: `nodeAt` answers 27 where none of them stands.
+abbrev pub CornersAreNodes : Type 0
+CornersAreNodes = (i k : ℕ) → i < 8 → k < 8 → childNode i k < 27

@@ -47,3 +47,7 @@ children corner edge face = grid 8 6 (λ (i k : ℕ). number corner edge face (n
 -- The 18 nodes stand at different places.
 abbrev pub NodesApart : Type 0
 NodesApart = (n : ℕ) → n < 18 → count 18 (λ (m : ℕ). eqb (middle at (getD nodes m [])) (middle at (getD nodes n []))) ≡ 1
+
+-- Every corner of a child is one of the 18 nodes: `nodeAt` answers 18 where none of them stands.
+abbrev pub CornersAreNodes : Type 0
+CornersAreNodes = (i k : ℕ) → i < 8 → k < 6 → nodeAt at nodes (childCorner i k) < 18
