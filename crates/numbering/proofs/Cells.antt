@@ -10,15 +10,15 @@ use mathlib.Core.Logic.{⊎-elim}
 use borrow.Author.Tests.{eq-eqb, ne-eqb, eqb-true, eqb-false, ltb-true, ltb-false}
 use lib.Dec.{T, eqb, ltb, ltb→lt}
 use lib.ListN.{getD}
-use Rattle.numbers.specs.Rule.{tabulate, all}
+use Rattle.numbers.specs.Rule.{all}
 use Rattle.numbers.proofs.Cases.{cases, never, fails}
 use Rattle.numbers.proofs.Table.{at}
 use Rattle.numbers.proofs.Tests.{first, second, all-at, all-at-pair}
 use Rattle.cell.specs.Edges.{end}
 use Rattle.cell.specs.Faults.{node, Sound}
-use Rattle.hex.specs.Cube.{edges, idx2node, ring}
+use Rattle.hex.specs.Cube.{edges, idx2node}
 use Rattle.numbering.specs.FirstMet.{among}
-use Rattle.numbering.specs.Refinement.{within, sameNodes, edgeNodes, faceNodes, OwnDiffer}
+use Rattle.numbering.specs.Refinement.{within, sameNodes, edgeCorners, faceCorners, edgeNodes, faceNodes, OwnDiffer}
 use Rattle.numbering.specs.Keys.{apart, Nodes}
 use Rattle.numbering.proofs.Same.{faces-same}
 
@@ -96,25 +96,19 @@ module _ (n : ℕ) (f : ℕ → ℕ) (sound : Sound n 8 f) (w : ℕ) (row : ℕ 
       same-map n f sound (row i) (row k) (here i (omega arith)) (here k h)
       ∙ fails (sameNodes (row i) (row k)) (all-at k (λ (i : ℕ). not (sameNodes (row i) (row k))) (all-at w (ownRow row) own k h) i less)
 
-abbrev edgeRow : ℕ → List ℕ
-edgeRow e = tabulate 2 (end edges e)
-
-abbrev faceRow : ℕ → List ℕ
-faceRow f = tabulate 4 (ring f)
-
 module _ (n : ℕ) (cells : List ℕ) (c : ℕ) (sound : Sound n 8 (node 8 cells c)) (few : n ≤ 1024) where
   pub edge-nodes : (e : ℕ) → e < 12 → Nodes (edgeNodes cells c e)
-  edge-nodes = nodes n (node 8 cells c) sound 12 edgeRow tt tt few
+  edge-nodes = nodes n (node 8 cells c) sound 12 edgeCorners tt tt few
 
   pub face-nodes : (f : ℕ) → f < 6 → Nodes (faceNodes cells c f)
-  face-nodes = nodes n (node 8 cells c) sound 6 faceRow tt tt few
+  face-nodes = nodes n (node 8 cells c) sound 6 faceCorners tt tt few
 
 pub own-parts-differ : OwnDiffer
 own-parts-differ =
     record {
-      edgesDiffer = λ n cells c sound. own-differ n (node 8 cells c) sound 12 edgeRow tt tt;
+      edgesDiffer = λ n cells c sound. own-differ n (node 8 cells c) sound 12 edgeCorners tt tt;
       facesDiffer = λ n cells c sound i k less h.
-          faces-same (faceNodes cells c i) (faceNodes cells c k) ∙ own-differ n (node 8 cells c) sound 6 faceRow tt tt i k less h;
+          faces-same (faceNodes cells c i) (faceNodes cells c k) ∙ own-differ n (node 8 cells c) sound 6 faceCorners tt tt i k less h;
     }
 
 -- the tables hold corners

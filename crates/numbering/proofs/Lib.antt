@@ -1,5 +1,6 @@
 pub mod Cells
 pub mod FirstMet
+pub mod Interface
 pub mod Keys
 pub mod Numbered
 pub mod Same

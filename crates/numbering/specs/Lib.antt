@@ -1,3 +1,4 @@
 pub mod FirstMet
+pub mod Interface
 pub mod Keys
 pub mod Refinement

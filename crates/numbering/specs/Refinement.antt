@@ -46,12 +46,19 @@ SameThings = Sameness same
 abbrev pub cellCount : List ℕ → ℕ
 cellCount cells = length cells / 8
 
--- edge e and face f of cell c
+-- the corners of edge e and of face f
+abbrev pub edgeCorners : ℕ → List ℕ
+edgeCorners e = tabulate 2 (end edges e)
+
+abbrev pub faceCorners : ℕ → List ℕ
+faceCorners f = tabulate 4 (ring f)
+
+-- their nodes in cell c
 abbrev pub edgeNodes : List ℕ → ℕ → ℕ → List ℕ
-edgeNodes cells c e = tabulate 2 (λ (s : ℕ). node 8 cells c (end edges e s))
+edgeNodes cells c e = map (node 8 cells c) (edgeCorners e)
 
 abbrev pub faceNodes : List ℕ → ℕ → ℕ → List ℕ
-faceNodes cells c f = tabulate 4 (λ (j : ℕ). node 8 cells c (ring f j))
+faceNodes cells c f = map (node 8 cells c) (faceCorners f)
 
 abbrev pub edgeOf : List ℕ → ℕ → ℕ → Thing
 edgeOf cells c e = edge (edgeNodes cells c e)
