@@ -1,18 +1,16 @@
 -- The slopes of the shape values in space at a quadrature point, and the determinant times its weights. Definitions and claims only.
-use Prim.Native.Nat.{ℕ}
-use mathlib.Core.Path.{_≡_}
+use Prim.Native.Nat.{ℕ, _+_, _*_}
 use mathlib.Core.Bool.{cond, _||_}
-use mathlib.Core.List.{List, [], _∷_}
+use mathlib.Core.List.{List, [], _∷_, _++_}
 use lib.Dec.{leb}
 use lib.Ieee.{Float}
-use Rattle.numbers.specs.Rule.{tabulate}
-use Rattle.binary64.specs.Binary64.{_⊗_, f0}
-use Rattle.binary64.specs.Answer.{Answer, answered, refused}
+use Rattle.binary64.specs.Binary64.{_⊗_, _!_}
+use Rattle.binary64.specs.Answer.{Answer, answered, refused, LosesNothing}
 use Rattle.cell.specs.Points.{pointCount, notWhole, notOneTo16, place, weight}
 use Rattle.hex_gradient.specs.Gradient.{shapeGradient}
 use Rattle.hex_weighted_gradient.specs.declared.WeightedGradient.{WeightedGradient}
-use Rattle.hex_weighted_gradient.specs.declared.Outcome.{Outcome}
-use Rattle.hex_weighted_gradient.specs.declared.Outcome.the-variants.{Given, Refused}
+use Rattle.hex_weighted_gradient.specs.declared.WeightedGradient.the-variants.{Given, Refused}
+use Rattle.hex_weighted_gradient.specs.declared.Slope.{Slope}
 
 -- at the place that three points of a list give: the slopes, and the determinant times the three weights, one at a time
 unfoldable pub atPoints : List Float → List Float → ℕ → ℕ → ℕ → List Float × Float
@@ -29,19 +27,19 @@ weightedGradient p points i j k =
     (cond (leb n i || leb n j || leb n k) (refused 9)
     (answered (atPoints p points i j k))))
 
--- the record of an answer. "A refusal returns its number and no other data": its floats are plus zeros
-abbrev pub recorded : Answer (List Float × Float) → WeightedGradient
-recorded (answered values) = record { outcome = Given; dndx = values .0; detwei = values .1 }
-recorded (refused n) = record { outcome = Refused n; dndx = tabulate 24 (λ (i : ℕ). f0); detwei = f0 }
+-- the three slopes of corner k, of slopes that are laid out corner by corner
+abbrev pub slopeOf : List Float → ℕ → Slope
+slopeOf dndx k = record { x = dndx ! (3 * k); y = dndx ! (3 * k + 1); z = dndx ! (3 * k + 2) }
 
--- and back: the number or the values of each outcome
-abbrev pub toldBy : Outcome → List Float × Float → Answer (List Float × Float)
-toldBy Given values = answered values
-toldBy (Refused n) values = refused n
+abbrev pub laidOut : Slope → List Float
+laidOut s = s .x ∷ s .y ∷ s .z ∷ []
 
+-- the number and the values of each answer
 abbrev pub told : WeightedGradient → Answer (List Float × Float)
-told r = toldBy (r .outcome) (r .dndx, r .detwei)
+told (Given a b c d e f g h weighted) =
+    answered (laidOut a ++ laidOut b ++ laidOut c ++ laidOut d ++ laidOut e ++ laidOut f ++ laidOut g ++ laidOut h, weighted)
+told (Refused n) = refused n
 
--- So a contract that gives the record of an answer leaves one record, and that tells the answer.
-abbrev pub ToldOfRecorded : Type 0
-ToldOfRecorded = (a : Answer (List Float × Float)) → told (recorded a) ≡ a
+-- So the contract leaves one possible answer.
+abbrev pub ToldLosesNothing : Type 0
+ToldLosesNothing = LosesNothing told

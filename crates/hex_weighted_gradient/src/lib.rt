@@ -3,19 +3,31 @@ ghost use mathlib.Core.Path.{_≡_};
 ghost use Prim.Native.Nat.{_<_};
 ghost use Rattle.binary64.specs.Answer.{Wrote};
 ghost use Rattle.cell.specs.Points.{pointCount};
-ghost use Rattle.hex_weighted_gradient.specs.Weighted.{atPoints, weightedGradient, recorded};
+ghost use Rattle.hex_weighted_gradient.specs.Weighted.{atPoints, weightedGradient, slopeOf, told};
 
-// Whether a record holds an answer, or the number of its refusal.
-pub enum Outcome {
-    Given,
+// The slopes of a shape value along the three axes of space.
+pub struct Slope {
+    pub x: f64,
+    pub y: f64,
+    pub z: f64,
+}
+
+// The slopes of the eight shape values, and the determinant times three weights; or the number of the refusal.
+pub enum WeightedGradient {
+    Given(Slope, Slope, Slope, Slope, Slope, Slope, Slope, Slope, f64),
     Refused(u32),
 }
 
-// The slopes, and the determinant times three weights; where it is refused, plus zeros.
-pub struct WeightedGradient {
-    pub outcome: Outcome,
-    pub dndx: [f64; 24],
-    pub detwei: f64,
+// The three slopes of corner k.
+fn slope_of(dndx: [f64; 24], k: usize) -> Slope
+    requires { ⌜ k < 8 ⌝ }
+    ensures { λ r. ⌜ r ≡ slopeOf dndx k ⌝ }
+{
+    Slope {
+        x: dndx[3 * k],
+        y: dndx[3 * k + 1],
+        z: dndx[3 * k + 2],
+    }
 }
 
 // The gradient at three points that the list has: the slopes go to `dndx`, and the weighted determinant is returned.
@@ -72,22 +84,23 @@ pub fn grad_shapefunc(
     ir2: usize,
     ir3: usize,
 ) -> WeightedGradient
-    ensures { λ r. ⌜ r ≡ recorded (weightedGradient node2xyz (now (quadrature .entry)) ir1 ir2 ir3) ⌝ }
+    ensures { λ r. ⌜ told r ≡ weightedGradient node2xyz (now (quadrature .entry)) ir1 ir2 ir3 ⌝ }
 {
     let mut dndx = [0.0; 24];
     let mut detwei = 0.0;
     let number = weighted_gradient(&node2xyz, quadrature, ir1, ir2, ir3, &mut dndx, &mut detwei);
-    let given = number == 0;
-    if given {
-        return WeightedGradient {
-            outcome: Outcome::Given,
-            dndx,
-            detwei,
-        };
+    if number != 0 {
+        return WeightedGradient::Refused(number);
     }
-    WeightedGradient {
-        outcome: Outcome::Refused(number),
-        dndx,
+    WeightedGradient::Given(
+        slope_of(dndx, 0),
+        slope_of(dndx, 1),
+        slope_of(dndx, 2),
+        slope_of(dndx, 3),
+        slope_of(dndx, 4),
+        slope_of(dndx, 5),
+        slope_of(dndx, 6),
+        slope_of(dndx, 7),
         detwei,
-    }
+    )
 }

@@ -5,7 +5,6 @@ use cell::Measured;
 use cell::Point;
 use hex_iso_mask::IsoMask;
 use hex_iso_position::IsoPosition;
-use hex_weighted_gradient::Outcome;
 use hex_weighted_gradient::WeightedGradient;
 use mat3_inverse::Inverse;
 use probe::Checked;
@@ -115,6 +114,44 @@ fn hex_grad_at(
     )
 }
 
+fn weighted(found: WeightedGradient, w: &[u64; 192], outcome: u32, out: usize) -> bool
+    requires { ⌜ out ≤ 96 ⌝ }
+{
+    match found {
+        WeightedGradient::Given(a, b, c, d, e, f, g, h, detwei) => {
+            let dndx = [
+                a.x,
+                a.y,
+                a.z,
+                b.x,
+                b.y,
+                b.z,
+                c.x,
+                c.y,
+                c.z,
+                d.x,
+                d.y,
+                d.z,
+                e.x,
+                e.y,
+                e.z,
+                f.x,
+                f.y,
+                f.z,
+                g.x,
+                g.y,
+                g.z,
+                h.x,
+                h.y,
+                h.z,
+            ];
+            let detwei = [detwei];
+            crate::agree24(dndx, w, out) & crate::agree(&detwei, w, out + 24) & (outcome == 0)
+        }
+        WeightedGradient::Refused(number) => outcome == number,
+    }
+}
+
 fn hex_grad_shapefunc(w: &[u64; 192], outcome: u32, out: usize) -> bool
     requires { ⌜ out ≤ 96 ⌝ }
 {
@@ -126,16 +163,7 @@ fn hex_grad_shapefunc(w: &[u64; 192], outcome: u32, out: usize) -> bool
     let i1 = crate::number_at(w, 25 + n);
     let i2 = crate::number_at(w, 26 + n);
     let i3 = crate::number_at(w, 27 + n);
-    let found = hex_grad_at(p, points, n, i1, i2, i3);
-    let dndx = found.dndx;
-    let detwei = [found.detwei];
-    let which = found.outcome;
-    match which {
-        Outcome::Given => {
-            crate::agree24(dndx, w, out) & crate::agree(&detwei, w, out + 24) & (outcome == 0)
-        }
-        Outcome::Refused(number) => outcome == number,
-    }
+    weighted(hex_grad_at(p, points, n, i1, i2, i3), w, outcome, out)
 }
 
 fn measured(found: Measured, w: &[u64; 192], outcome: u32, out: usize) -> bool
