@@ -75,10 +75,19 @@ fn near(p: &[f64; 24], pco: [f64; 3], t: f64) -> bool
     near_on(x[0], t) & near_on(x[1], t) & near_on(x[2], t)
 }
 
-// The check's refusals in their order: 3, 4, 5, 6.
-fn decide(corners: &[f64; 24], at: Point, tolerance: f64) -> Verdict
+// What is handed over by value are floats that binary64 holds, and a caller that was lent them has it from here. It compiles to nothing.
+fn held(corners: [f64; 24])
+    ensures { λ _. ⌜ Floats 24 corners ⌝ }
+{}
+
+// The check of corners that are lent: its refusals in their order, 3, 4, 5, 6. With M the largest corner size on an axis and e = 14 M / 2^53, an accepted
+// place's exact image is at most T + e from the probe on each axis; and a place whose exact image is at most T - e from it on each is accepted.
+pub fn judge(corners: &[f64; 24], at: Point, tolerance: f64) -> Verdict
     ensures { λ r. ⌜ told r ≡ checked (now (corners .entry)) (coords at) tolerance ⌝ }
+    ensures sound { λ r. ⌜ AcceptedIsNear (r ≡ Verdict.Accepted) (now (corners .entry)) (coords at) tolerance ⌝ }
+    ensures complete { λ r. ⌜ (T (inside (coords at)) → NearIsAccepted (r ≡ Verdict.Accepted) (now (corners .entry)) (coords at) tolerance) ⌝ }
 {
+    held(*corners);
     if !good_corners(corners) {
         return Verdict::Refused(3);
     }
@@ -92,22 +101,6 @@ fn decide(corners: &[f64; 24], at: Point, tolerance: f64) -> Verdict
         return Verdict::Refused(6);
     }
     Verdict::Accepted
-}
-
-// What is handed over by value are floats that binary64 holds, and a caller that was lent them has it from here. It compiles to nothing.
-fn held(corners: [f64; 24])
-    ensures { λ _. ⌜ Floats 24 corners ⌝ }
-{}
-
-// The check of corners that are lent. With M the largest corner size on an axis and e = 14 M / 2^53, an accepted place's exact image is at most T + e from
-// the probe on each axis; and a place whose exact image is at most T - e from it on each is accepted.
-pub fn judge(corners: &[f64; 24], at: Point, tolerance: f64) -> Verdict
-    ensures { λ r. ⌜ told r ≡ checked (now (corners .entry)) (coords at) tolerance ⌝ }
-    ensures sound { λ r. ⌜ AcceptedIsNear (r ≡ Verdict.Accepted) (now (corners .entry)) (coords at) tolerance ⌝ }
-    ensures complete { λ r. ⌜ (T (inside (coords at)) → NearIsAccepted (r ≡ Verdict.Accepted) (now (corners .entry)) (coords at) tolerance) ⌝ }
-{
-    held(*corners);
-    decide(corners, at, tolerance)
 }
 
 // Whether the image of a place is within the tolerance of the probe: `judge` of corners by value.

@@ -1,17 +1,108 @@
--- `probe::judge` meets its contract: its answer is the definition's, which keeps both halves of demand 3. Assumes nothing.
+-- `probe::judge` meets its contract: each way out is one rung of the definition's ladder, which keeps both halves of demand 3. Assumes nothing.
+use mathlib.Core.Path.{_≡_}
 use borrow.Author.Needs.{needs}
 use denote.Floats.{passes}
+use lib.Dec.{T}
+use lib.Ieee.{Float}
+use mathlib.Core.List.{List}
+use Rattle.cell.specs.Newton.{coords}
+use Rattle.hex_locate.specs.Locate.{inside}
+use Rattle.probe.specs.Check.{checked, told}
+use Rattle.probe.specs.Demand.{AcceptedIsNear, NearIsAccepted}
+use Rattle.probe.specs.declared.Verdict.{Verdict}
+use Rattle.probe.specs.declared.Verdict.the-variants.{Accepted, Refused}
 use Rattle.probe.proofs.Arguments.{point-fits}
 use Rattle.probe.proofs.Demand.{check-promises}
 use Rattle.probe.proofs.judge.Statement.{statement}
 use Rattle.probe.proofs.judge.Tie as tie
 
+-- what is promised of an answer, from what is told of it
+module _ (c : tie.After-held) where
+  abbrev p : List Float
+  p = c .before .before .args .corners .now
+
+  abbrev q : List Float
+  q = coords (c .before .before .args .at)
+
+  abbrev t : Float
+  t = c .before .before .args .tolerance
+
+  promises : (r : Verdict) → told r ≡ checked p q t
+      → (told r ≡ checked p q t) × (AcceptedIsNear (r ≡ Accepted) p q t × (T (inside q) → NearIsAccepted (r ≡ Accepted) p q t))
+  promises r e =
+      let start = c .before .before in
+      check-promises p (start .args .at) t r (c .held .ensures) (point-fits (start .args .at) _ (start .good .1 .0)) (passes _ (start .good .1 .1 .0 .1)) e
+
 returns : tie.Need-returns
-returns c =
-    let held = c .before in
-    let start = held .before .before in
-    check-promises (start .args .corners .now) (start .args .at) (start .args .tolerance) (c .decide .result)
-    (held .held .ensures) (point-fits (start .args .at) _ (start .good .1 .0)) (passes _ (start .good .1 .1 .0 .1)) (c .decide .ensures)
+unfolding checked
+returns c = promises (c .before .before) (Refused 3) (simp (← c .before .good-corners .ensures, c .if1 .taken))
+
+returns-2 : tie.Need-returns-2
+unfolding checked
+returns-2 c =
+    let corners = c .before .before in
+    promises (corners .before .before) (Refused 4)
+    (simp (← corners .before .good-corners .ensures, corners .if1 .left, ← c .before .good-tolerance .ensures, c .if2 .taken))
+
+returns-3 : tie.Need-returns-3
+unfolding checked
+returns-3 c =
+    let tolerance = c .before .before in
+    let corners = tolerance .before .before in
+    promises (corners .before .before) (Refused 5) (simp (
+      ← corners .before .good-corners .ensures,
+      corners .if1 .left,
+      ← tolerance .before .good-tolerance .ensures,
+      tolerance .if2 .left,
+      ← c .before .good-place .ensures,
+      c .if3 .taken,
+    ))
+
+returns-4 : tie.Need-returns-4
+unfolding checked
+returns-4 c =
+    let place = c .before .before in
+    let tolerance = place .before .before in
+    let corners = tolerance .before .before in
+    promises (corners .before .before) (Refused 6) (simp (
+      ← corners .before .good-corners .ensures,
+      corners .if1 .left,
+      ← tolerance .before .good-tolerance .ensures,
+      tolerance .if2 .left,
+      ← place .before .good-place .ensures,
+      place .if3 .left,
+      ← c .before .near .ensures,
+      c .if4 .taken,
+    ))
+
+returns-5 : tie.Need-returns-5
+unfolding checked
+returns-5 c =
+    let place = c .before .before in
+    let tolerance = place .before .before in
+    let corners = tolerance .before .before in
+    promises (corners .before .before) Accepted (simp (
+      ← corners .before .good-corners .ensures,
+      corners .if1 .left,
+      ← tolerance .before .good-tolerance .ensures,
+      tolerance .if2 .left,
+      ← place .before .good-place .ensures,
+      place .if3 .left,
+      ← c .before .near .ensures,
+      c .if4 .left,
+    ))
 
 pub judge-spec : {M : Type 1} → statement M
-judge-spec = tie.close (tie.spec (λ c κs. search needs) (λ c κs. search needs) returns)
+judge-spec =
+    tie.close
+    (tie.spec
+    (λ c κs. search needs)
+    (λ c κs. search needs)
+    returns
+    (λ c κs. search needs)
+    returns-2
+    (λ c κs. search needs)
+    returns-3
+    (λ c κs. search needs)
+    returns-4
+    returns-5)
