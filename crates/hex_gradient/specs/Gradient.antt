@@ -26,7 +26,7 @@ module _ {A : Type 0} (a : Arithmetic A) where
       term a jac 0 1 2 ⊕ term a jac 1 2 0 ⊕ term a jac 2 0 1 ⊖ term a jac 0 2 1 ⊖ term a jac 1 0 2 ⊖ term a jac 2 1 0
 
 abbrev pub gradientDet : List Float → Float
-gradientDet = gradientDetIn floats
+gradientDet jac = gradientDetIn floats jac
 
 -- In whole numbers, where no order matters, it is the determinant.
 abbrev pub GradientDetIsDet : Type 0

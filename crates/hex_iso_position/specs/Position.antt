@@ -41,10 +41,10 @@ module _ {A : Type 0} (a : Arithmetic A) where
         nodeIn center halfWidth s i ⊗ (w ⊘ (w ⊖ v)) ⊕ nodeIn center halfWidth t i ⊗ (neg v ⊘ (w ⊖ v))
 
 abbrev pub nodeOn : List Float → Float → List Float → ℕ → Float
-nodeOn = nodeIn floats
+nodeOn center halfWidth s i = nodeIn floats center halfWidth s i
 
 abbrev pub positionOn : List Float → Float → List Float → List Float → Float → Float → ℕ → Float
-positionOn = positionIn floats _⊘_
+positionOn center halfWidth s t v w i = positionIn floats _⊘_ center halfWidth s t v w i
 
 -- The value that goes evenly from v at p to w at q is zero at x, a fraction over the square of w - v: (x - p) (w - v) = (- v) (q - p), both times its bottom.
 pub record ZeroAt (p q v w : ℤ) (x : Fraction ℤ) : Type 0 where

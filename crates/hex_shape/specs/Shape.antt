@@ -47,13 +47,13 @@ module _ {A : Type 0} (a : Arithmetic A) where
   slopeIn eighth q k j = timesSides q k (cond (upper k j) eighth (neg eighth)) (without j axes)
 
 abbrev pub side : Bool → Float → Float
-side = sideIn floats
+side up r = sideIn floats up r
 
 abbrev pub shapeAt : List Float → ℕ → Float
-shapeAt = shapeIn floats one8
+shapeAt q k = shapeIn floats one8 q k
 
 abbrev pub slopeAt : List Float → ℕ → ℕ → Float
-slopeAt = slopeIn floats one8
+slopeAt q k j = slopeIn floats one8 q k j
 
 abbrev pub shape : List Float → List Float
 shape q = tabulate 8 (shapeAt q)

@@ -54,10 +54,10 @@ abbrev pub transposed : List Float → List Float
 transposed m = matrix (λ (i j : ℕ). entry floats m j i)
 
 abbrev pub product : List Float → List Float → List Float
-product = productIn floats
+product m v = productIn floats m v
 
 abbrev pub det : List Float → Float
-det = detIn floats
+det m = detIn floats m
 
 -- In whole numbers the determinant changes its sign where column c and the next one, counted round, are exchanged, and that of the unit matrix is one.
 pub record SignedByColumns : Type 0 where

@@ -39,7 +39,7 @@ module _ {A : Type 0} (a : Arithmetic A) where
   times m n = matrix (λ (i j : ℕ). productIn a m (tabulate 3 (λ (k : ℕ). entry a n k j)) ! i)
 
 abbrev pub scaledCofactors : Float → List Float → List Float
-scaledCofactors = scaledCofactorsIn floats
+scaledCofactors s m = scaledCofactorsIn floats s m
 
 -- In whole numbers a matrix times these is s times its determinant on the diagonal, and zero elsewhere: with one over the determinant for s, they are its
 -- inverse.

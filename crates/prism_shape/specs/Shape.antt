@@ -68,10 +68,10 @@ module _ {A : Type 0} (a : Arithmetic A) where
       cond (eqb j 2) (slopeOn (level k) 0 (across q) (column k)) (slopeOn (column k) j (upward q) (level k))
 
 abbrev pub shapeAt : List Float → ℕ → Float
-shapeAt = shapeIn floats
+shapeAt q k = shapeIn floats q k
 
 abbrev pub slopeAt : List Float → ℕ → ℕ → Float
-slopeAt = slopeIn floats
+slopeAt q k j = slopeIn floats q k j
 
 abbrev pub shape : List Float → List Float
 shape q = tabulate 6 (shapeAt q)
