@@ -156,7 +156,7 @@ uint32_t isn_hex_subdivide(const uint32_t corner[8], const uint32_t edge[12], co
 uint32_t isn_hex_check(const double corners[24], const double at[3], double tolerance);
 
 /* at = the place that the locator finds, if its image is within the tolerance of the probe. Refusals: 3 and 4 as in isn_hex_check, then 1 or 2
- * as in the locator, then 6 too far. */
+ * as in the locator, then 6 too far. What isn_hex_check says of a place that it accepts holds of at. */
 uint32_t isn_hex_locate_checked(const double corners[24], double tolerance, double at[3]);
 
 /* A place in the cell: three coordinates. */

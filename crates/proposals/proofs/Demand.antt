@@ -18,9 +18,10 @@ use Rattle.probe.proofs.Arguments.{point-fits}
 use Rattle.probe.proofs.Demand.{demand}
 use Rattle.probe.proofs.Refusals.{zero-accepts}
 use Rattle.proposals.specs.Demand.{ZeroIsNear, NearIsZero}
-use Rattle.proposals.specs.Judgements.{judgement, unlessRefused, zerosIn, orNone, turnsOf}
+use Rattle.proposals.specs.Judgements.{judgement, unlessRefused, zerosIn, turnsOf}
 use Rattle.proposals.specs.declared.Proposal.{Proposal}
 use Rattle.proposals.proofs.Proposal as P
+use Rattle.proposals.proofs.Written.{all-turns}
 
 -- what a record and its number owe
 abbrev pub Owed : List Float → Proposal → ℕ → Type 0
@@ -45,13 +46,12 @@ map-at f (x ∷ xs) (suc k) d e below = map-at f xs k d e (le-of-suc-le-suc belo
 -- what each turn has shown of its number holds of the numbers that a judged list leaves
 pub each-left : (n room : ℕ) (js old : List ℕ) (Q : ℕ → ℕ → Type 0) → length js ≡ n → ((k : ℕ) → k < turnsOf n room → Q k (getD js k 0))
     → (z : ℕ) → zerosIn (unlessRefused n room js) ≡ answered z → (k : ℕ) → k < n → Q k (getD (left (unlessRefused n room js) old) k 0)
-unfolding turnsOf
-each-left n room js old Q long = by (ltb 256 n) (ltb room n)
+each-left n room js old Q long turn = by (ltb 256 n) (ltb room n) refl refl
   where
-    by : (y w : Bool) → ((k : ℕ) → k < orNone (cond y (refused 7) (cond w (refused 8) (answered n))) → Q k (getD js k 0))
-        → (z : ℕ) → zerosIn (cond y (refused 7) (cond w (refused 8) (answered js))) ≡ answered z
+    by : (y w : Bool) → ltb 256 n ≡ y → ltb room n ≡ w → (z : ℕ) → zerosIn (cond y (refused 7) (cond w (refused 8) (answered js))) ≡ answered z
         → (k : ℕ) → k < n → Q k (getD (left (cond y (refused 7) (cond w (refused 8) (answered js))) old) k 0)
-    by true w turn z e k below = absurd (never 7 z e)
-    by false true turn z e k below = absurd (never 8 z e)
-    by false false turn z e k below =
-        subst (Q k) (sym (List·getD-append js (drop (length js) old) 0 k (subst (λ (m : ℕ). k < m) (sym long) below))) (turn k below)
+    by true w few fits z e k below = absurd (never 7 z e)
+    by false true few fits z e k below = absurd (never 8 z e)
+    by false false few fits z e k below =
+        let mine : k < turnsOf n room = rw (all-turns n room few fits) below in
+        subst (Q k) (sym (List·getD-append js (drop (length js) old) 0 k (subst (λ (m : ℕ). k < m) (sym long) below))) (turn k mine)

@@ -32,6 +32,11 @@ pub few : (n room : ℕ) → Few n room (turnsOf n room)
 unfolding turnsOf
 few n room = few-by n room (ltb 256 n) (ltb room n) refl refl
 
+-- of a list that is not refused every record has its turn
+pub all-turns : (n room : ℕ) → ltb 256 n ≡ false → ltb room n ≡ false → turnsOf n room ≡ n
+unfolding turnsOf
+all-turns n room short fits = rw (short, fits)
+
 -- what stands in a list of which the first k numbers are written over
 abbrev pub overwritten : List ℕ → List ℕ → ℕ → List ℕ
 overwritten new old k = take k new ++ drop k old

@@ -16,18 +16,20 @@ use Rattle.descendant.proofs.descendant.Tie as tie
 
 returns : tie.Need-returns
 unfolding descended
-returns c = simp (lt-ltb _ _ (c .if1 .taken))
+returns c = simp (lt-ltb 20 (length (c .before .before .args .path .now)) (omega arith))
 
 returns-2 : tie.Need-returns-2
 unfolding descended
-returns-2 c = simp (le-ltb _ _ (c .before .before .if1 .left), ← c .before .octants .ensures, not-true (c .before .octants .result) (c .if2 .taken))
+returns-2 c =
+    let path = c .before .before .before .before .args .path .now in
+    simp (le-ltb 20 (length path) (omega arith), ← c .before .octants .ensures, not-true (c .before .octants .result) (c .if2 .taken))
 
 returns-3 : tie.Need-returns-3
 unfolding descended
 returns-3 c =
     let octant = c .before .before .octants in
     simp (
-      le-ltb _ _ (c .before .before .before .if1 .left),
+      le-ltb 20 (length (c .before .before .before .before .before .args .path .now)) (omega arith),
       ← octant .ensures,
       not-false (octant .result) (c .before .if2 .left),
       le-ltb _ _ (c .if3 .taken),
@@ -39,7 +41,7 @@ returns-4 c =
     let tests = c .before .before .before in
     let octant = tests .before .before .octants in
     simp (
-      le-ltb _ _ (tests .before .before .before .if1 .left),
+      le-ltb 20 (length (tests .before .before .before .before .before .args .path .now)) (omega arith),
       ← octant .ensures,
       not-false (octant .result) (tests .before .if2 .left),
       lt-ltb _ _ (tests .if3 .left),

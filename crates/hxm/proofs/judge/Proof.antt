@@ -1,7 +1,9 @@
 -- `hxm::judge` meets its contract: the tests climb the definition's ladder. Assumes nothing.
-use Prim.Native.Nat.{ℕ}
+use Prim.Native.Nat.{ℕ, _+_, _*_}
+use native.Mathlib.Omega.{arith}
 use mathlib.Core.Path.{_≡_}
 use mathlib.Core.List.{List}
+use lib.ListN.{length}
 use borrow.Author.Needs.{needs}
 use borrow.Author.Tests.{lt-ltb, le-ltb, eq-eqb, ne-eqb}
 use Rattle.hxm.specs.Format.{meshOf}
@@ -12,7 +14,7 @@ use Rattle.hxm.proofs.judge.Tie as tie
 
 returns : tie.Need-returns
 unfolding meshOf
-returns c = simp (lt-ltb _ _ (c .if1 .taken))
+returns c = simp (lt-ltb (length (c .before .before .args .bytes .now)) 13 (omega arith))
 
 -- the rungs that are left behind the head
 module _ (c : tie.After-u32-at2) where
@@ -22,27 +24,34 @@ module _ (c : tie.After-u32-at2) where
   head : counts (meshOf file)
       ≡ rungs file (c .before .before .before .marked .result) (c .before .before .u16-at .result) (c .before .u32-at .result) (c .u32-at2 .result)
   head =
-      climbed file _ _ _ _ (c .before .before .before .before .if1 .left)
+      climbed file _ _ _ _ (omega arith)
       (c .before .before .before .marked .ensures)
       (c .before .before .u16-at .ensures)
       (c .before .u32-at .ensures)
       (c .u32-at2 .ensures)
 
+  abbrev version-read : ℕ
+  version-read = c .before .before .u16-at .result
+
+  -- where the cells end
+  abbrev last : ℕ
+  last = 13 + 24 * c .before .u32-at .result + 32 * c .u32-at2 .result
+
 returns-2 : tie.Need-returns-2
 returns-2 c = rw (head (c .before), c .if2 .taken)
 
 returns-3 : tie.Need-returns-3
-returns-3 c = simp (head (c .before .before), c .before .if2 .left, ne-eqb _ _ (c .if3 .taken))
+returns-3 c = simp (head (c .before .before), c .before .if2 .left, ne-eqb (version-read (c .before .before)) 1 (λ e. omega arith))
 
 returns-4 : tie.Need-returns-4
 returns-4 c =
     let mark = c .before .before in
-    simp (head (mark .before), mark .if2 .left, eq-eqb _ _ (c .before .if3 .left), lt-ltb _ _ (c .if4 .taken))
+    simp (head (mark .before), mark .if2 .left, eq-eqb (version-read (mark .before)) 1 (omega arith), lt-ltb _ _ (c .if4 .taken))
 
 returns-5 : tie.Need-returns-5
 returns-5 c =
     let mark = c .before .before .before in
-    simp (head (mark .before), mark .if2 .left, eq-eqb _ _ (c .before .before .if3 .left), le-ltb _ _ (c .before .if4 .left), lt-ltb _ _ (c .if5 .taken))
+    simp (head (mark .before), mark .if2 .left, eq-eqb (version-read (mark .before)) 1 (omega arith), le-ltb _ _ (c .before .if4 .left), lt-ltb _ _ (c .if5 .taken))
 
 returns-6 : tie.Need-returns-6
 returns-6 c =
@@ -51,10 +60,10 @@ returns-6 c =
     simp (
       head (mark .before),
       mark .if2 .left,
-      eq-eqb _ _ (few .before .before .if3 .left),
+      eq-eqb (version-read (mark .before)) 1 (omega arith),
       le-ltb _ _ (few .before .if4 .left),
       le-ltb _ _ (few .if5 .left),
-      ne-eqb _ _ (c .if6 .taken),
+      ne-eqb (length (file (mark .before))) (last (mark .before)) (λ e. omega arith),
     )
 
 returns-7 : tie.Need-returns-7
@@ -64,10 +73,10 @@ returns-7 c =
     simp (
       head (mark .before),
       mark .if2 .left,
-      eq-eqb _ _ (few .before .before .if3 .left),
+      eq-eqb (version-read (mark .before)) 1 (omega arith),
       le-ltb _ _ (few .before .if4 .left),
       le-ltb _ _ (few .if5 .left),
-      eq-eqb _ _ (c .before .before .if6 .left),
+      eq-eqb (length (file (mark .before))) (last (mark .before)) (omega arith),
       ← c .before .fault-at .ensures,
       ne-eqb _ _ (c .if7 .taken),
     )
@@ -79,10 +88,10 @@ returns-8 c =
     simp (
       head (mark .before),
       mark .if2 .left,
-      eq-eqb _ _ (few .before .before .if3 .left),
+      eq-eqb (version-read (mark .before)) 1 (omega arith),
       le-ltb _ _ (few .before .if4 .left),
       le-ltb _ _ (few .if5 .left),
-      eq-eqb _ _ (c .before .before .if6 .left),
+      eq-eqb (length (file (mark .before))) (last (mark .before)) (omega arith),
       ← c .before .fault-at .ensures,
       eq-eqb _ _ (c .if7 .left),
     )
