@@ -67,7 +67,7 @@ pub extern "C" fn isn_mat3_determinant(m: &[f64; 9], out: &mut f64) -> u32
 pub extern "C" fn isn_mat3_try_inverse(m: &[f64; 9], out: &mut [f64; 9]) -> u32
     ensures { λ r. ⌜ Wrote (inverse (now (m .entry))) r (now (out .entry)) (now (out .exit)) ⌝ }
 {
-    answers::put_inverse(mat3_inverse::try_inverse(*m), out)
+    cell_answers::put_inverse(mat3_inverse::try_inverse(*m), out)
 }
 
 #[no_mangle]
@@ -153,14 +153,14 @@ pub extern "C" fn isn_hex_grad_shapefunc(
 pub extern "C" fn isn_hex_volume(corners: &[f64; 24], points: &[f64], out: &mut f64) -> u32
     ensures { λ r. ⌜ Wrote (hexVolume (now (corners .entry)) (now (points .entry))) r (now (out .entry)) (now (out .exit)) ⌝ }
 {
-    answers::put_measured(hex_volume::volume(*corners, points), out)
+    cell_answers::put_measured(hex_volume::volume(*corners, points), out)
 }
 
 #[no_mangle]
 pub extern "C" fn isn_hex_parametric_coord_for_origin(corners: &[f64; 24], at: &mut [f64; 3]) -> u32
     ensures { λ r. ⌜ Wrote (hexLocated (now (corners .entry))) r (now (at .entry)) (now (at .exit)) ⌝ }
 {
-    answers::put_located(hex_locate::newton(corners), at)
+    cell_answers::put_located(hex_locate::newton(corners), at)
 }
 
 #[no_mangle]
@@ -175,7 +175,7 @@ pub extern "C" fn isn_hex_iso_position_on_edge(
 ) -> u32
     ensures { λ r. ⌜ Wrote (isoPosition (now (center .entry)) «half_width» i0 i1 val0 val1) r (now (out .entry)) (now (out .exit)) ⌝ }
 {
-    answers::put_position(
+    iso_answers::put_position(
         hex_iso_position::iso_position_on_edge(*center, half_width, wide(i0), wide(i1), val0, val1),
         out,
     )
@@ -199,7 +199,7 @@ pub extern "C" fn isn_hex_iso_edges(
 pub extern "C" fn isn_hex_iso_mask(index: u32, mask: &mut u32) -> u32
     ensures { λ r. ⌜ Wrote (isoMask index) r (now (mask .entry)) (now (mask .exit)) ⌝ }
 {
-    answers::put_mask(hex_iso_mask::iso_mask(index), mask)
+    iso_answers::put_mask(hex_iso_mask::iso_mask(index), mask)
 }
 
 #[no_mangle]
@@ -227,7 +227,7 @@ pub extern "C" fn isn_hex_check(corners: &[f64; 24], at: &[f64; 3], tolerance: f
         y: at[1],
         z: at[2],
     };
-    answers::put_verdict(probe::judge(corners, place, tolerance))
+    probe_answers::put_verdict(probe::judge(corners, place, tolerance))
 }
 
 #[no_mangle]
@@ -241,7 +241,7 @@ pub extern "C" fn isn_hex_locate_checked(
     ensures complete { λ r. ⌜ ((q : List Float) → hexLocated (now (corners .entry)) ≡ answered q
         → NearIsAccepted ((r ≡ 0) × (now (at .exit) ≡ q)) (now (corners .entry)) q tolerance) ⌝ }
 {
-    answers::put_checked(probe::locate_checked(*corners, tolerance), at)
+    probe_answers::put_checked(probe::locate_checked(*corners, tolerance), at)
 }
 
 #[no_mangle]
@@ -256,7 +256,7 @@ pub extern "C" fn isn_hex_check_proposals(
     ensures sound { λ r. ⌜ (r ≡ 0 → Each ZeroIsNear (now (corners .entry)) (now (list .entry)) (now (out .exit))) ⌝ }
     ensures complete { λ r. ⌜ (r ≡ 0 → Each NearIsZero (now (corners .entry)) (now (list .entry)) (now (out .exit))) ⌝ }
 {
-    answers::put_judged(proposals::check_proposals(*corners, list, out), accepted)
+    probe_answers::put_judged(proposals::check_proposals(*corners, list, out), accepted)
 }
 
 #[no_mangle]
@@ -292,7 +292,7 @@ pub extern "C" fn isn_prism_volume(
 ) -> u32
     ensures { λ r. ⌜ Wrote (prismVolume (now (corners .entry)) (now (line .entry)) (now (triangle .entry))) r (now (out .entry)) (now (out .exit)) ⌝ }
 {
-    answers::put_measured(prism_volume::volume(*corners, line, triangle), out)
+    cell_answers::put_measured(prism_volume::volume(*corners, line, triangle), out)
 }
 
 #[no_mangle]
@@ -302,7 +302,7 @@ pub extern "C" fn isn_prism_parametric_coord_for_origin(
 ) -> u32
     ensures { λ r. ⌜ Wrote (prismLocated (now (corners .entry))) r (now (at .entry)) (now (at .exit)) ⌝ }
 {
-    answers::put_located(prism_locate::parametric_coord_for_origin(*corners), at)
+    cell_answers::put_located(prism_locate::parametric_coord_for_origin(*corners), at)
 }
 
 #[no_mangle]
@@ -323,14 +323,14 @@ pub extern "C" fn isn_refine(n: u32, cells: &[u32], out: &mut [u32], next: &mut 
     ensures answer { λ r. ⌜ Wrote (refined n (now (cells .entry)) (length (now (out .entry)))) r (now (next .entry)) (now (next .exit)) ⌝ }
     ensures output { λ _. ⌜ now (out .exit) ≡ left (childrenIn (refined n (now (cells .entry)) (length (now (out .entry)))) n (now (cells .entry))) (now (out .entry)) ⌝ }
 {
-    answers::put_refined(refine::refine(n, cells, out), next)
+    mesh_answers::put_refined(refine::refine(n, cells, out), next)
 }
 
 #[no_mangle]
 pub extern "C" fn isn_descendant(path: &[u32], corner: u32, out: &mut [i32; 3]) -> u32
     ensures { λ r. ⌜ Wrote (descended (now (path .entry)) corner) r (now (out .entry)) (now (out .exit)) ⌝ }
 {
-    answers::put_descended(descendant::descendant(path, corner), out)
+    mesh_answers::put_descended(descendant::descendant(path, corner), out)
 }
 
 #[no_mangle]
@@ -344,5 +344,5 @@ pub extern "C" fn isn_hxm_read(
     ensures coords { λ _. ⌜ now (nodes .exit) ≡ left (coordsOf (meshInto (length (now (nodes .entry))) (length (now (cells .entry))) (now (bytes .entry)))) (now (nodes .entry)) ⌝ }
     ensures corners { λ _. ⌜ now (cells .exit) ≡ left (cornersOf (meshInto (length (now (nodes .entry))) (length (now (cells .entry))) (now (bytes .entry)))) (now (cells .entry)) ⌝ }
 {
-    answers::put_reading(hxm::read(bytes, nodes, cells), counts)
+    mesh_answers::put_reading(hxm::read(bytes, nodes, cells), counts)
 }

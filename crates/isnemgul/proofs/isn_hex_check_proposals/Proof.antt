@@ -56,10 +56,10 @@ use Rattle.proposals.proofs.check_proposals.Symbol as face-def
 use Rattle.proposals.proofs.check_proposals.Symbol.{name as #face}
 use Rattle.proposals.proofs.check_proposals.Met as face-thm
 use Rattle.refusals.proofs.Numbers.{refusals-numbered}
-use Rattle.answers.proofs.put_judged as put
-use Rattle.answers.proofs.put_judged.Symbol as put-def
-use Rattle.answers.proofs.put_judged.Symbol.{name as #put}
-use Rattle.answers.proofs.put_judged.Met as put-thm
+use Rattle.probe_answers.proofs.put_judged as put
+use Rattle.probe_answers.proofs.put_judged.Symbol as put-def
+use Rattle.probe_answers.proofs.put_judged.Symbol.{name as #put}
+use Rattle.probe_answers.proofs.put_judged.Met as put-thm
 use Rattle.isnemgul.proofs.isn_hex_check_proposals.Key.{name as #self}
 use Rattle.isnemgul.proofs.isn_hex_check_proposals as self
 use Rattle.isnemgul.proofs.isn_hex_check_proposals.Statement as stated
@@ -251,5 +251,5 @@ isn-hex-check-proposals-spec 𝓤 H 𝓜 𝓖 𝓡 =
     (tables 𝓤 H 𝓜 𝓡 code.env .C) (tables 𝓤 H 𝓜 𝓡 code.env .Λ) #self code.function (code.unfolded 𝓤 H 𝓜 𝓡)
     (meets 𝓤 H (𝓖 .A) (givenOf 𝓤 H 𝓜 𝓖) (𝓜 .mem) (𝓡 .run) (tablesOf 𝓤 H 𝓜 (tables 𝓤 H 𝓜 𝓡 code.env)) (
       cited 𝓤 H (Face 𝓤 H (𝓖 .A) (𝓜 .mem) (𝓡 .run)) 𝓜 𝓡 code.env #face face-def.routine code.calls-proposals·check-proposals (face-thm.met 𝓤 H 𝓜 𝓖 𝓡),
-      cited 𝓤 H (Put 𝓤 H (𝓖 .A) (𝓜 .mem) (𝓡 .run)) 𝓜 𝓡 code.env #put put-def.routine code.calls-answers·put-judged (put-thm.met 𝓤 H 𝓜 𝓖 𝓡),
+      cited 𝓤 H (Put 𝓤 H (𝓖 .A) (𝓜 .mem) (𝓡 .run)) 𝓜 𝓡 code.env #put put-def.routine code.calls-probe-answers·put-judged (put-thm.met 𝓤 H 𝓜 𝓖 𝓡),
     ))
