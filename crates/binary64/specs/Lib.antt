@@ -1,4 +1,3 @@
 pub mod Binary64
-pub mod Answer
 pub mod Exact
 pub mod Constants

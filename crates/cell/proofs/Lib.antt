@@ -1,5 +1,4 @@
 pub mod Edges
-pub mod Faults
 pub mod Newton
 pub mod Points
 pub mod Refusals

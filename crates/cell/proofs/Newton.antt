@@ -1,37 +1,32 @@
--- What n Newton steps give: one step more, and that a refusal stays; and that what is told of an answer leaves one answer. Assumes nothing.
-use Prim.Native.Nat.{ℕ, zero, suc, _+_, _-_, _<_}
-use native.Mathlib.Nat.{zero-add, suc-add}
-use native.Mathlib.Numerals.{add-one}
+-- How twenty Newton steps end; and that what is told of an answer leaves one answer. Assumes nothing.
+use Prim.Native.Nat.{ℕ, _+_, _-_, _<_}
 use native.Mathlib.Omega.{arith}
 use mathlib.Core.Path.{_≡_, refl, sym, _∙_, ap, subst}
 use mathlib.Core.Bool.{Bool}
 use mathlib.Core.List.{List}
 use lib.Ieee.{Float}
-use Rattle.binary64.specs.Answer.{Answer, answered, refused, andThen}
-use Rattle.cell.specs.Newton.{after, verdict, locate, told, stepTold, ToldLosesNothing, StepToldLosesNothing}
+use Rattle.answer.specs.Answer.{Answer, answered, refused, andThen, after}
+use Rattle.answer.proofs.Steps.{one-more, stays}
+use Rattle.cell.specs.Newton.{verdict, locate, told, stepTold, ToldLosesNothing, StepToldLosesNothing}
 use Rattle.cell.specs.declared.Point.{Point}
 use Rattle.cell.specs.declared.Located.the-variants.{Inside, Flat, Outside}
 use Rattle.cell.specs.declared.Step.the-variants.{Next, Stuck}
 
 module _ (step : List Float → Answer (List Float)) (start : List Float) where
-  pub one-more : (i : ℕ) (q : List Float) (a : Answer (List Float)) → after step start i ≡ answered q → a ≡ step q → after step start (i + 1) ≡ a
-  unfolding after
-  one-more i q a h e = ap (after step start) (add-one i) ∙ ap (λ (b : Answer (List Float)). andThen b step) h ∙ sym e
-
-  pub stays : (n d r : ℕ) → after step start n ≡ refused r → after step start (d + n) ≡ refused r
-  unfolding after
-  stays n zero r h = ap (after step start) (zero-add n) ∙ h
-  stays n (suc d) r h = ap (after step start) (suc-add d n) ∙ ap (λ (b : Answer (List Float)). andThen b step) (stays n d r h)
-
   -- a step that is refused before the twentieth is the answer
-  pub refused-early : (inside : List Float → Bool) (i r : ℕ) (q : List Float) → i < 20 → after step start i ≡ answered q → refused r ≡ step q → refused r ≡ locate step start inside
+  pub refused-early :
+      (inside : List Float → Bool) (i r : ℕ) (q : List Float) → i < 20 → after step start i ≡ answered q → refused r ≡ step q
+      → refused r ≡ locate step start inside
   refused-early inside i r q below h e =
       let whole : 19 - i + (i + 1) ≡ 20 = omega arith in
-      let last : after step start 20 ≡ refused r = subst (λ (n : ℕ). after step start n ≡ refused r) whole (stays (i + 1) (19 - i) r (one-more i q (refused r) h e)) in
+      let here = one-more step start i q (refused r) h e in
+      let last = subst (λ (n : ℕ). after step start n ≡ refused r) whole (stays step start (i + 1) (19 - i) r here) in
       sym (ap (λ (a : Answer (List Float)). andThen a (verdict inside)) last)
 
   -- after the twentieth the inside test decides
-  pub after-twenty : (inside : List Float → Bool) (i : ℕ) (q : List Float) → i ≡ 20 → after step start i ≡ answered q → verdict inside q ≡ locate step start inside
+  pub after-twenty :
+      (inside : List Float → Bool) (i : ℕ) (q : List Float) → i ≡ 20 → after step start i ≡ answered q
+      → verdict inside q ≡ locate step start inside
   after-twenty inside i q done h =
       sym (ap (λ (a : Answer (List Float)). andThen a (verdict inside)) (ap (after step start) (sym done) ∙ h))
 

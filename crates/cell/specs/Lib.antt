@@ -1,5 +1,4 @@
 pub mod Edges
-pub mod Faults
 pub mod Image
 pub mod Middles
 pub mod Newton

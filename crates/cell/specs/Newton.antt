@@ -1,11 +1,11 @@
 -- Newton's search for the place whose image is the origin, for any cell. Definitions only.
-use Prim.Native.Nat.{ℕ, zero, suc}
+use Prim.Native.Nat.{ℕ}
 use mathlib.Core.Bool.{Bool, cond}
 use mathlib.Core.List.{List, [], _∷_}
 use lib.Ieee.{Float}
 use Rattle.numbers.specs.Rule.{tabulate}
 use Rattle.binary64.specs.Binary64.{_⊖_, _!_}
-use Rattle.binary64.specs.Answer.{Answer, answered, refused, andThen, LosesNothing}
+use Rattle.answer.specs.Answer.{Answer, answered, refused, andThen, after, LosesNothing}
 use Rattle.mat3_col_major.specs.Mat3.{transposed, product}
 use Rattle.mat3_inverse.specs.Inverse.{inverse}
 use Rattle.cell.specs.declared.Point.{Point}
@@ -25,11 +25,6 @@ lessBy q d = tabulate 3 (λ (i : ℕ). q ! i ⊖ d ! i)
 unfoldable pub stepFrom : List Float → List Float → List Float → Answer (List Float)
 stepFrom q image jacobian =
     andThen (inverse (transposed jacobian)) (λ (m : List Float). answered (lessBy q (product m image)))
-
--- n steps; where a step is refused, so is what follows
-unfoldable pub after : (List Float → Answer (List Float)) → List Float → ℕ → Answer (List Float)
-after step start zero = answered start
-after step start (suc n) = andThen (after step start n) step
 
 -- the place q, or 2 where the inside test fails
 abbrev pub verdict : (List Float → Bool) → List Float → Answer (List Float)

@@ -6,7 +6,7 @@ use lib.Dec.{eqb, ltb}
 use lib.Ieee.{Float}
 use lib.ListN.{length}
 use Rattle.binary64.specs.Binary64.{_!_}
-use Rattle.binary64.specs.Answer.{Answer, answered, refused, LosesNothing}
+use Rattle.answer.specs.Answer.{Answer, answered, refused, LosesNothing}
 use Rattle.cell.specs.declared.Measured.{Measured}
 use Rattle.cell.specs.declared.Measured.the-variants.{Volume, Refused}
 

@@ -1,14 +1,14 @@
-// What the answer of a matrix, a locator or a volume leaves in lent memory, for C: its values and 0, or a refusal's number and nothing else (`Wrote`).
+// What the answer of a matrix, a locator or a volume leaves in lent memory, for C: its values and 0, or a refusal's number and nothing else (`Leaves`).
 use cell::Located;
 use cell::Measured;
 use mat3_inverse::Inverse;
-ghost use Rattle.binary64.specs.Answer.{Wrote};
+ghost use Rattle.answer.specs.Answer.{Leaves};
 ghost use Rattle.mat3_inverse.specs.Inverse.{told as inverseTold};
 ghost use Rattle.cell.specs.Newton.{told};
 ghost use Rattle.cell.specs.Points.{told as volumeTold};
 
 pub fn put_inverse(found: Inverse, out: &mut [f64; 9]) -> u32
-    ensures { λ r. ⌜ Wrote (inverseTold found) r (now (out .entry)) (now (out .exit)) ⌝ }
+    ensures { λ r. ⌜ Leaves (inverseTold found) r (now (out .entry)) (now (out .exit)) ⌝ }
 {
     match found {
         Inverse::Of(a, b, c, d, e, f, g, h, i) => {
@@ -20,7 +20,7 @@ pub fn put_inverse(found: Inverse, out: &mut [f64; 9]) -> u32
 }
 
 pub fn put_located(found: Located, at: &mut [f64; 3]) -> u32
-    ensures { λ r. ⌜ Wrote (told found) r (now (at .entry)) (now (at .exit)) ⌝ }
+    ensures { λ r. ⌜ Leaves (told found) r (now (at .entry)) (now (at .exit)) ⌝ }
 {
     match found {
         Located::Inside(r, s, t) => {
@@ -33,7 +33,7 @@ pub fn put_located(found: Located, at: &mut [f64; 3]) -> u32
 }
 
 pub fn put_measured(found: Measured, out: &mut f64) -> u32
-    ensures { λ r. ⌜ Wrote (volumeTold found) r (now (out .entry)) (now (out .exit)) ⌝ }
+    ensures { λ r. ⌜ Leaves (volumeTold found) r (now (out .entry)) (now (out .exit)) ⌝ }
 {
     match found {
         Measured::Volume(x) => {

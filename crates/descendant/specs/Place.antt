@@ -7,7 +7,7 @@ use lib.Dec.{ltb}
 use lib.IntN.{ℤ, pos, negsuc, _+ℤ_, _*ℤ_}
 use lib.ListN.{length, getD}
 use Rattle.numbers.specs.Rule.{tabulate, all}
-use Rattle.binary64.specs.Answer.{Answer, answered, refused, LosesNothing}
+use Rattle.answer.specs.Answer.{Answer, answered, refused, LosesNothing}
 use Rattle.hex.specs.Cube.{upper}
 use Rattle.descendant.specs.declared.Descended.{Descended}
 use Rattle.descendant.specs.declared.Descended.the-variants.{At, Refused}

@@ -3,7 +3,7 @@ ghost use mathlib.Core.Path.{_≡_};
 ghost use Prim.Native.Nat.{_+_, _*_, _≤_, _<_};
 ghost use lib.ListN.{length};
 ghost use Rattle.numbers.specs.Rule.{tabulate};
-ghost use Rattle.cell.specs.Faults.{node, names, inRange, newAt, different, fault, firstFault};
+ghost use Rattle.faults.specs.Faults.{node, names, inRange, newAt, different, fault, firstFault};
 
 // Whether every node of a cell is one of n.
 fn in_range(n: u32, cell: [u32; 8]) -> bool

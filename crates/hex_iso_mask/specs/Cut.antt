@@ -8,7 +8,7 @@ use lib.Ieee.{Float, lt, unlike}
 use lib.ListN.{length, getD}
 use Rattle.numbers.specs.Bits.{bit, withBits}
 use Rattle.binary64.specs.Binary64.{_!_, f0}
-use Rattle.binary64.specs.Answer.{Answer, answered, refused, LosesNothing}
+use Rattle.answer.specs.Answer.{Answer, answered, refused, LosesNothing}
 use Rattle.cell.specs.Edges.{end}
 use Rattle.hex.specs.Cube.{edges}
 use Rattle.hex_iso_mask.specs.declared.IsoMask.{IsoMask}

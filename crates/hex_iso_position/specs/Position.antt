@@ -12,7 +12,7 @@ use Rattle.numbers.specs.Arithmetic.{Arithmetic}
 use Rattle.integers.specs.Integers.{integers}
 use Rattle.integers.specs.Fractions.{Fraction, whole, fractions, quotient}
 use Rattle.binary64.specs.Binary64.{_⊘_, floats}
-use Rattle.binary64.specs.Answer.{Answer, answered, refused, LosesNothing}
+use Rattle.answer.specs.Answer.{Answer, answered, refused, LosesNothing}
 use Rattle.hex.specs.Cube.{hexSign}
 use Rattle.hex_iso_position.specs.declared.IsoPosition.{IsoPosition}
 use Rattle.hex_iso_position.specs.declared.IsoPosition.the-variants.{At, Refused}

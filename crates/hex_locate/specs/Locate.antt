@@ -3,7 +3,7 @@ use mathlib.Core.Bool.{Bool, _&&_}
 use mathlib.Core.List.{List, [], _∷_}
 use lib.Ieee.{Float, le, neg}
 use Rattle.binary64.specs.Binary64.{_!_, f0, f1}
-use Rattle.binary64.specs.Answer.{Answer}
+use Rattle.answer.specs.Answer.{Answer}
 use Rattle.cell.specs.Newton.{stepFrom, locate}
 use Rattle.hex_image.specs.Image.{imageAt, jacobianAt}
 

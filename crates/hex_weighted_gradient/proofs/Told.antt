@@ -11,7 +11,7 @@ use lib.ListN.{length}
 use lib.Seq.{ext-getD}
 use Rattle.numbers.specs.Rule.{tabulate}
 use Rattle.numbers.proofs.Tabulate.{tabulate-at}
-use Rattle.binary64.specs.Answer.{Answer, answered, refused, Wrote}
+use Rattle.answer.specs.Answer.{Answer, answered, refused, Leaves}
 use Rattle.binary64.specs.Binary64.{_!_}
 use Rattle.cell.specs.Points.{pointCount, notWhole, notOneTo16}
 use Rattle.hex_gradient.specs.Gradient.{fromJacobian, shapeGradient}
@@ -41,14 +41,14 @@ all-read l long = ext-getD nan (tabulate 24 (λ (k : ℕ). l ! k)) l (sym long) 
 abbrev ladder : Bool → Bool → Bool → List Float × Float → Answer (List Float × Float)
 ladder a b c w = cond a (refused 8) (cond b (refused 7) (cond c (refused 9) (answered w)))
 
-told-of-zero : (a b c : Bool) (w v old : List Float × Float) → length (w .0) ≡ 24 → Wrote (ladder a b c w) 0 old v
+told-of-zero : (a b c : Bool) (w v old : List Float × Float) → length (w .0) ≡ 24 → Leaves (ladder a b c w) 0 old v
     → told (given (v .0) (v .1)) ≡ ladder a b c w
 told-of-zero true b c w v old long (is, same) = absurd (omega arith)
 told-of-zero false true c w v old long (is, same) = absurd (omega arith)
 told-of-zero false false true w v old long (is, same) = absurd (omega arith)
 told-of-zero false false false w v old long (is, same) = rw same (rw (all-read (w .0) long))
 
-told-of-refusal : (a b c : Bool) (w v old : List Float × Float) (n : ℕ) → (n ≡ 0 → ⊥) → Wrote (ladder a b c w) n old v → refused n ≡ ladder a b c w
+told-of-refusal : (a b c : Bool) (w v old : List Float × Float) (n : ℕ) → (n ≡ 0 → ⊥) → Leaves (ladder a b c w) n old v → refused n ≡ ladder a b c w
 told-of-refusal true b c w v old n not-zero (is, same) = rw is
 told-of-refusal false true c w v old n not-zero (is, same) = rw is
 told-of-refusal false false true w v old n not-zero (is, same) = rw is
@@ -62,8 +62,8 @@ module _ (p points : List Float) (i j k : ℕ) (v old : List Float × Float) whe
   unfolding atPoints shapeGradient fromJacobian
   slopes-long = refl
 
-  pub given-told : Wrote (weightedGradient p points i j k) 0 old v → told (given (v .0) (v .1)) ≡ weightedGradient p points i j k
+  pub given-told : Leaves (weightedGradient p points i j k) 0 old v → told (given (v .0) (v .1)) ≡ weightedGradient p points i j k
   given-told = told-of-zero (notWhole 2 points) (notOneTo16 2 points) (leb many i || leb many j || leb many k) (atPoints p points i j k) v old slopes-long
 
-  pub refusal-told : (n : ℕ) → (n ≡ 0 → ⊥) → Wrote (weightedGradient p points i j k) n old v → refused n ≡ weightedGradient p points i j k
+  pub refusal-told : (n : ℕ) → (n ≡ 0 → ⊥) → Leaves (weightedGradient p points i j k) n old v → refused n ≡ weightedGradient p points i j k
   refusal-told = told-of-refusal (notWhole 2 points) (notOneTo16 2 points) (leb many i || leb many j || leb many k) (atPoints p points i j k) v old

@@ -5,7 +5,7 @@ use mathlib.Core.List.{List, [], _∷_, _++_}
 use lib.Dec.{leb}
 use lib.Ieee.{Float}
 use Rattle.binary64.specs.Binary64.{_⊗_, _!_}
-use Rattle.binary64.specs.Answer.{Answer, answered, refused, LosesNothing}
+use Rattle.answer.specs.Answer.{Answer, answered, refused, LosesNothing}
 use Rattle.cell.specs.Points.{pointCount, notWhole, notOneTo16, place, weight}
 use Rattle.hex_gradient.specs.Gradient.{shapeGradient}
 use Rattle.hex_weighted_gradient.specs.declared.WeightedGradient.{WeightedGradient}

@@ -1,7 +1,7 @@
 // hex.rs: the slopes of the shape functions in space at a quadrature point, with its weight.
 ghost use mathlib.Core.Path.{_≡_};
 ghost use Prim.Native.Nat.{_<_};
-ghost use Rattle.binary64.specs.Answer.{Wrote};
+ghost use Rattle.answer.specs.Answer.{Leaves};
 ghost use Rattle.cell.specs.Points.{pointCount};
 ghost use Rattle.hex_weighted_gradient.specs.Weighted.{atPoints, weightedGradient, slopeOf, told};
 
@@ -59,7 +59,7 @@ pub fn weighted_gradient(
     dndx: &mut [f64; 24],
     detwei: &mut f64,
 ) -> u32
-    ensures { λ r. ⌜ Wrote (weightedGradient (now (node2xyz .entry)) (now (quadrature .entry)) ir1 ir2 ir3) r (now (dndx .entry), now (detwei .entry)) (now (dndx .exit), now (detwei .exit)) ⌝ }
+    ensures { λ r. ⌜ Leaves (weightedGradient (now (node2xyz .entry)) (now (quadrature .entry)) ir1 ir2 ir3) r (now (dndx .entry), now (detwei .entry)) (now (dndx .exit), now (detwei .exit)) ⌝ }
 {
     let nq = quadrature.len() / 2;
     let not_whole = quadrature.len() % 2 != 0;

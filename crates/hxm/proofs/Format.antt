@@ -13,9 +13,9 @@ use Rattle.numbers.specs.Little.{numberAt, numbersAt, bytes, allBytes, Below}
 use Rattle.numbers.proofs.All.{left-true, right-true}
 use Rattle.numbers.proofs.Stored.{length-tabulate}
 use Rattle.numbers.proofs.Little.{little-endian, number-bytes, number-behind, numbers-below, length-all-bytes}
-use Rattle.binary64.specs.Answer.{answered}
-use Rattle.cell.specs.Faults.{node, Sound}
-use Rattle.cell.proofs.Faults.{faultless-is-sound}
+use Rattle.answer.specs.Answer.{answered}
+use Rattle.faults.specs.Faults.{node, Sound}
+use Rattle.faults.proofs.Faults.{faultless-is-sound}
 use Rattle.hxm.specs.Format.{Mesh, mark, fileOf, version, nodeCount, cellCount, cellsFrom, marked, faultOf, meshAt}
 use Rattle.hxm.specs.Format.{Good, FilesOfMeshes}
 use Rattle.hxm.proofs.Ladder.{Passed, accepted-passed, passed-accepted}

@@ -11,8 +11,8 @@ use borrow.Author.Tests.{lt-ltb, le-ltb, eq-eqb, ltb-false, eqb-true, not-false}
 use Rattle.numbers.specs.Rule.{tabulate}
 use Rattle.numbers.specs.Little.{numberAt, numbersAt}
 use Rattle.numbers.proofs.Stored.{length-tabulate}
-use Rattle.binary64.specs.Answer.{Answer, answered, refused}
-use Rattle.cell.specs.Faults.{firstFault}
+use Rattle.answer.specs.Answer.{Answer, answered, refused}
+use Rattle.faults.specs.Faults.{firstFault}
 use Rattle.hxm.specs.Format.{Mesh, version, nodeCount, cellCount, cellsFrom, fileLength, marked, faultOf, meshAt, meshOf}
 use Rattle.hxm.specs.Reads.{counts, meshInto, Reads, ToldLosesNothing}
 use Rattle.hxm.specs.declared.Reading.the-variants.{Mesh as Counts, Refused}

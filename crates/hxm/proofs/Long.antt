@@ -9,7 +9,7 @@ use lib.ListN.{length, take, drop}
 use lib.Seq.{take-all, take-take, length-take-le, getD-take, take-nil}
 use borrow.Author.Tests.{le-ltb, ltb-true, ltb-false, ne-eqb}
 use Rattle.numbers.specs.Little.{numberAt}
-use Rattle.binary64.specs.Answer.{Answer, answered, refused}
+use Rattle.answer.specs.Answer.{Answer, answered, refused}
 use Rattle.hxm.specs.Format.{Mesh, version, nodeCount, cellCount, fileLength, marked, faultOf, meshAt, meshOf, EnoughToTell}
 use Rattle.hxm.proofs.Ladder.{neither}
 

@@ -7,8 +7,8 @@ use lib.Dec.{eqb, ltb}
 use lib.ListN.{length, getD, take}
 use Rattle.numbers.specs.Rule.{all}
 use Rattle.numbers.specs.Little.{numberAt, numbersAt, bytes, allBytes, Below}
-use Rattle.binary64.specs.Answer.{Answer, answered, refused}
-use Rattle.cell.specs.Faults.{node, firstFault, Sound}
+use Rattle.answer.specs.Answer.{Answer, answered, refused}
+use Rattle.faults.specs.Faults.{node, firstFault, Sound}
 
 -- how many nodes and cells, "three float64 bit patterns" a node, and "eight 32-bit numbers" a cell
 pub record Mesh : Type 0 where

@@ -4,7 +4,7 @@ use mathlib.Core.Path.{_≡_}
 use mathlib.Core.Bool.{_||_, cond}
 use mathlib.Core.List.{List, [], _∷_}
 use lib.Dec.{ltb}
-use Rattle.binary64.specs.Answer.{Answer, answered, refused, andThen, left, LosesNothing}
+use Rattle.answer.specs.Answer.{Answer, answered, refused, andThen, left, LosesNothing}
 use Rattle.hxm.specs.Format.{Mesh, meshOf}
 use Rattle.hxm.specs.declared.Reading.{Reading}
 use Rattle.hxm.specs.declared.Reading.the-variants.{Mesh as Counts, Refused}

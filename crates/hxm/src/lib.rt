@@ -4,7 +4,7 @@ ghost use mathlib.Core.List.{_++_};
 ghost use Prim.Native.Nat.{_+_, _*_, _<_, _≤_};
 ghost use lib.ListN.{length, drop};
 ghost use Rattle.numbers.specs.Little.{numberAt, numbersAt};
-ghost use Rattle.cell.specs.Faults.{firstFault};
+ghost use Rattle.faults.specs.Faults.{firstFault};
 ghost use Rattle.hxm.specs.Format.{marked, meshOf};
 ghost use Rattle.hxm.specs.Reads.{told, counts, meshInto, Reads};
 

@@ -4,8 +4,8 @@ use mathlib.Core.Path.{_≡_, sym, ap, _∙_, subst}
 use mathlib.Core.List.{List}
 use lib.Dec.{T}
 use lib.Ieee.{Float}
-use Rattle.binary64.specs.Answer.{Answer, answered, Wrote, numberOf}
-use Rattle.binary64.proofs.Answers.{wrote-zero, wrote-answered}
+use Rattle.answer.specs.Answer.{Answer, answered, Leaves, numberOf}
+use Rattle.answer.proofs.Answers.{leaves-zero, leaves-answered}
 use Rattle.hex_locate.specs.Locate.{inside, located}
 use Rattle.probe.specs.Check.{checked, locatedChecked, told, placeTold}
 use Rattle.probe.specs.Demand.{AcceptedIsNear, NearIsAccepted}
@@ -26,16 +26,16 @@ check-told p q t v r said judged = (
   ),
 )
 
-pub locate-told : (p : List Float) (t : Float) (v : Checked) (r : ℕ) (old new : List Float) → Wrote (placeTold v) r old new
+pub locate-told : (p : List Float) (t : Float) (v : Checked) (r : ℕ) (old new : List Float) → Leaves (placeTold v) r old new
     → (placeTold v ≡ locatedChecked p t) × (((q : List Float) → AcceptedIsNear (placeTold v ≡ answered q) p q t)
     × ((q : List Float) → located p ≡ answered q → NearIsAccepted (placeTold v ≡ answered q) p q t))
-    → Wrote (locatedChecked p t) r old new × (AcceptedIsNear (r ≡ 0) p new t
+    → Leaves (locatedChecked p t) r old new × (AcceptedIsNear (r ≡ 0) p new t
     × ((q : List Float) → located p ≡ answered q → NearIsAccepted ((r ≡ 0) × (new ≡ q)) p q t))
 locate-told p t v r old new wrote found =
-    let whole : Wrote (locatedChecked p t) r old new = subst (λ (a : Answer (List Float)). Wrote a r old new) (found .0) wrote in (
+    let whole : Leaves (locatedChecked p t) r old new = subst (λ (a : Answer (List Float)). Leaves a r old new) (found .0) wrote in (
       whole,
       (
-        λ zero. found .1 .0 new (found .0 ∙ wrote-zero _ (locatedChecked p t) r old new tt (refusals-numbered .ofLocator p t) whole zero),
-        λ q place good finite well. wrote-answered (placeTold v) r old new q wrote (found .1 .1 q place good finite well),
+        λ zero. found .1 .0 new (found .0 ∙ leaves-zero _ (locatedChecked p t) r old new tt (refusals-numbered .ofLocator p t) whole zero),
+        λ q place good finite well. leaves-answered (placeTold v) r old new q wrote (found .1 .1 q place good finite well),
       ),
     )

@@ -1,5 +1,5 @@
 // The C face: what a simulator links as libisnemgul.a (include/isnemgul.h). Each function takes its arguments apart, calls the Rattle face
-// and writes the answer. It returns 0 where it answered, and otherwise a refusal's number, and then no lent memory has changed: `Wrote`.
+// and writes the answer. It returns 0 where it answered, and otherwise a refusal's number, and then no lent memory has changed: `Leaves`.
 use cell::Point;
 use proposals::Proposal;
 ghost use mathlib.Core.Path.{_≡_};
@@ -7,7 +7,7 @@ ghost use mathlib.Core.List.{List};
 ghost use lib.Dec.{T};
 ghost use lib.Ieee.{Float};
 ghost use lib.ListN.{length};
-ghost use Rattle.binary64.specs.Answer.{answered, Wrote, left, numberOf};
+ghost use Rattle.answer.specs.Answer.{answered, Leaves, left, numberOf};
 ghost use Rattle.mat3_col_major.specs.Mat3.{transposed, product, det};
 ghost use Rattle.mat3_inverse.specs.Inverse.{inverse};
 ghost use Rattle.hex_shape.specs.Shape as Hex;
@@ -65,7 +65,7 @@ pub extern "C" fn isn_mat3_determinant(m: &[f64; 9], out: &mut f64) -> u32
 
 #[no_mangle]
 pub extern "C" fn isn_mat3_try_inverse(m: &[f64; 9], out: &mut [f64; 9]) -> u32
-    ensures { λ r. ⌜ Wrote (inverse (now (m .entry))) r (now (out .entry)) (now (out .exit)) ⌝ }
+    ensures { λ r. ⌜ Leaves (inverse (now (m .entry))) r (now (out .entry)) (now (out .exit)) ⌝ }
 {
     cell_answers::put_inverse(mat3_inverse::try_inverse(*m), out)
 }
@@ -136,7 +136,7 @@ pub extern "C" fn isn_hex_grad_shapefunc(
     dndx: &mut [f64; 24],
     detwei: &mut f64,
 ) -> u32
-    ensures { λ r. ⌜ Wrote (weightedGradient (now (corners .entry)) (now (points .entry)) i1 i2 i3) r (now (dndx .entry), now (detwei .entry)) (now (dndx .exit), now (detwei .exit)) ⌝ }
+    ensures { λ r. ⌜ Leaves (weightedGradient (now (corners .entry)) (now (points .entry)) i1 i2 i3) r (now (dndx .entry), now (detwei .entry)) (now (dndx .exit), now (detwei .exit)) ⌝ }
 {
     hex_weighted_gradient::weighted_gradient(
         corners,
@@ -151,14 +151,14 @@ pub extern "C" fn isn_hex_grad_shapefunc(
 
 #[no_mangle]
 pub extern "C" fn isn_hex_volume(corners: &[f64; 24], points: &[f64], out: &mut f64) -> u32
-    ensures { λ r. ⌜ Wrote (hexVolume (now (corners .entry)) (now (points .entry))) r (now (out .entry)) (now (out .exit)) ⌝ }
+    ensures { λ r. ⌜ Leaves (hexVolume (now (corners .entry)) (now (points .entry))) r (now (out .entry)) (now (out .exit)) ⌝ }
 {
     cell_answers::put_measured(hex_volume::volume(*corners, points), out)
 }
 
 #[no_mangle]
 pub extern "C" fn isn_hex_parametric_coord_for_origin(corners: &[f64; 24], at: &mut [f64; 3]) -> u32
-    ensures { λ r. ⌜ Wrote (hexLocated (now (corners .entry))) r (now (at .entry)) (now (at .exit)) ⌝ }
+    ensures { λ r. ⌜ Leaves (hexLocated (now (corners .entry))) r (now (at .entry)) (now (at .exit)) ⌝ }
 {
     cell_answers::put_located(hex_locate::newton(corners), at)
 }
@@ -173,7 +173,7 @@ pub extern "C" fn isn_hex_iso_position_on_edge(
     val1: f64,
     out: &mut [f64; 3],
 ) -> u32
-    ensures { λ r. ⌜ Wrote (isoPosition (now (center .entry)) «half_width» i0 i1 val0 val1) r (now (out .entry)) (now (out .exit)) ⌝ }
+    ensures { λ r. ⌜ Leaves (isoPosition (now (center .entry)) «half_width» i0 i1 val0 val1) r (now (out .entry)) (now (out .exit)) ⌝ }
 {
     iso_answers::put_position(
         hex_iso_position::iso_position_on_edge(*center, half_width, wide(i0), wide(i1), val0, val1),
@@ -197,7 +197,7 @@ pub extern "C" fn isn_hex_iso_edges(
 
 #[no_mangle]
 pub extern "C" fn isn_hex_iso_mask(index: u32, mask: &mut u32) -> u32
-    ensures { λ r. ⌜ Wrote (isoMask index) r (now (mask .entry)) (now (mask .exit)) ⌝ }
+    ensures { λ r. ⌜ Leaves (isoMask index) r (now (mask .entry)) (now (mask .exit)) ⌝ }
 {
     iso_answers::put_mask(hex_iso_mask::iso_mask(index), mask)
 }
@@ -236,7 +236,7 @@ pub extern "C" fn isn_hex_locate_checked(
     tolerance: f64,
     at: &mut [f64; 3],
 ) -> u32
-    ensures { λ r. ⌜ Wrote (locatedChecked (now (corners .entry)) tolerance) r (now (at .entry)) (now (at .exit)) ⌝ }
+    ensures { λ r. ⌜ Leaves (locatedChecked (now (corners .entry)) tolerance) r (now (at .entry)) (now (at .exit)) ⌝ }
     ensures sound { λ r. ⌜ AcceptedIsNear (r ≡ 0) (now (corners .entry)) (now (at .exit)) tolerance ⌝ }
     ensures complete { λ r. ⌜ ((q : List Float) → hexLocated (now (corners .entry)) ≡ answered q
         → NearIsAccepted ((r ≡ 0) × (now (at .exit) ≡ q)) (now (corners .entry)) q tolerance) ⌝ }
@@ -251,7 +251,7 @@ pub extern "C" fn isn_hex_check_proposals(
     out: &mut [u32],
     accepted: &mut u32,
 ) -> u32
-    ensures answer { λ r. ⌜ Wrote (zerosIn (judgements (now (corners .entry)) (now (list .entry)) (length (now (out .entry))))) r (now (accepted .entry)) (now (accepted .exit)) ⌝ }
+    ensures answer { λ r. ⌜ Leaves (zerosIn (judgements (now (corners .entry)) (now (list .entry)) (length (now (out .entry))))) r (now (accepted .entry)) (now (accepted .exit)) ⌝ }
     ensures output { λ _. ⌜ now (out .exit) ≡ left (judgements (now (corners .entry)) (now (list .entry)) (length (now (out .entry)))) (now (out .entry)) ⌝ }
     ensures sound { λ r. ⌜ (r ≡ 0 → Each ZeroIsNear (now (corners .entry)) (now (list .entry)) (now (out .exit))) ⌝ }
     ensures complete { λ r. ⌜ (r ≡ 0 → Each NearIsZero (now (corners .entry)) (now (list .entry)) (now (out .exit))) ⌝ }
@@ -290,7 +290,7 @@ pub extern "C" fn isn_prism_volume(
     triangle: &[f64],
     out: &mut f64,
 ) -> u32
-    ensures { λ r. ⌜ Wrote (prismVolume (now (corners .entry)) (now (line .entry)) (now (triangle .entry))) r (now (out .entry)) (now (out .exit)) ⌝ }
+    ensures { λ r. ⌜ Leaves (prismVolume (now (corners .entry)) (now (line .entry)) (now (triangle .entry))) r (now (out .entry)) (now (out .exit)) ⌝ }
 {
     cell_answers::put_measured(prism_volume::volume(*corners, line, triangle), out)
 }
@@ -300,7 +300,7 @@ pub extern "C" fn isn_prism_parametric_coord_for_origin(
     corners: &[f64; 18],
     at: &mut [f64; 3],
 ) -> u32
-    ensures { λ r. ⌜ Wrote (prismLocated (now (corners .entry))) r (now (at .entry)) (now (at .exit)) ⌝ }
+    ensures { λ r. ⌜ Leaves (prismLocated (now (corners .entry))) r (now (at .entry)) (now (at .exit)) ⌝ }
 {
     cell_answers::put_located(prism_locate::parametric_coord_for_origin(*corners), at)
 }
@@ -320,7 +320,7 @@ pub extern "C" fn isn_prism_subdivide(
 
 #[no_mangle]
 pub extern "C" fn isn_refine(n: u32, cells: &[u32], out: &mut [u32], next: &mut u32) -> u32
-    ensures answer { λ r. ⌜ Wrote (refined n (now (cells .entry)) (length (now (out .entry)))) r (now (next .entry)) (now (next .exit)) ⌝ }
+    ensures answer { λ r. ⌜ Leaves (refined n (now (cells .entry)) (length (now (out .entry)))) r (now (next .entry)) (now (next .exit)) ⌝ }
     ensures output { λ _. ⌜ now (out .exit) ≡ left (childrenIn (refined n (now (cells .entry)) (length (now (out .entry)))) n (now (cells .entry))) (now (out .entry)) ⌝ }
 {
     mesh_answers::put_refined(refine::refine(n, cells, out), next)
@@ -328,7 +328,7 @@ pub extern "C" fn isn_refine(n: u32, cells: &[u32], out: &mut [u32], next: &mut 
 
 #[no_mangle]
 pub extern "C" fn isn_descendant(path: &[u32], corner: u32, out: &mut [i32; 3]) -> u32
-    ensures { λ r. ⌜ Wrote (descended (now (path .entry)) corner) r (now (out .entry)) (now (out .exit)) ⌝ }
+    ensures { λ r. ⌜ Leaves (descended (now (path .entry)) corner) r (now (out .entry)) (now (out .exit)) ⌝ }
 {
     mesh_answers::put_descended(descendant::descendant(path, corner), out)
 }
@@ -340,7 +340,7 @@ pub extern "C" fn isn_hxm_read(
     cells: &mut [u32],
     counts: &mut [u32; 2],
 ) -> u32
-    ensures answer { λ r. ⌜ Wrote (countsOf (meshInto (length (now (nodes .entry))) (length (now (cells .entry))) (now (bytes .entry)))) r (now (counts .entry)) (now (counts .exit)) ⌝ }
+    ensures answer { λ r. ⌜ Leaves (countsOf (meshInto (length (now (nodes .entry))) (length (now (cells .entry))) (now (bytes .entry)))) r (now (counts .entry)) (now (counts .exit)) ⌝ }
     ensures coords { λ _. ⌜ now (nodes .exit) ≡ left (coordsOf (meshInto (length (now (nodes .entry))) (length (now (cells .entry))) (now (bytes .entry)))) (now (nodes .entry)) ⌝ }
     ensures corners { λ _. ⌜ now (cells .exit) ≡ left (cornersOf (meshInto (length (now (nodes .entry))) (length (now (cells .entry))) (now (bytes .entry)))) (now (cells .entry)) ⌝ }
 {

@@ -1,12 +1,12 @@
-// What the answer of an edge position or a mask leaves in lent memory, for C: its values and 0, or a refusal's number and nothing else (`Wrote`).
+// What the answer of an edge position or a mask leaves in lent memory, for C: its values and 0, or a refusal's number and nothing else (`Leaves`).
 use hex_iso_mask::IsoMask;
 use hex_iso_position::IsoPosition;
-ghost use Rattle.binary64.specs.Answer.{Wrote};
+ghost use Rattle.answer.specs.Answer.{Leaves};
 ghost use Rattle.hex_iso_mask.specs.Cut.{maskTold};
 ghost use Rattle.hex_iso_position.specs.Position.{positionTold};
 
 pub fn put_position(found: IsoPosition, out: &mut [f64; 3]) -> u32
-    ensures { λ r. ⌜ Wrote (positionTold found) r (now (out .entry)) (now (out .exit)) ⌝ }
+    ensures { λ r. ⌜ Leaves (positionTold found) r (now (out .entry)) (now (out .exit)) ⌝ }
 {
     match found {
         IsoPosition::At(x, y, z) => {
@@ -18,7 +18,7 @@ pub fn put_position(found: IsoPosition, out: &mut [f64; 3]) -> u32
 }
 
 pub fn put_mask(found: IsoMask, out: &mut u32) -> u32
-    ensures { λ r. ⌜ Wrote (maskTold found) r (now (out .entry)) (now (out .exit)) ⌝ }
+    ensures { λ r. ⌜ Leaves (maskTold found) r (now (out .entry)) (now (out .exit)) ⌝ }
 {
     match found {
         IsoMask::Mask(m) => {

@@ -4,7 +4,7 @@ ghost use mathlib.Core.List.{[], _∷_};
 ghost use Prim.Native.Nat.{_+_, _*_, _<_, _≤_, min, max};
 ghost use lib.ListN.{length, getD};
 ghost use Rattle.cell.specs.Edges.{end};
-ghost use Rattle.cell.specs.Faults.{node};
+ghost use Rattle.faults.specs.Faults.{node};
 ghost use Rattle.hex.specs.Cube.{edges, idx2node};
 ghost use Rattle.numbering.specs.Refinement.{cellCount, edgeNodes, faceNodes};
 ghost use Rattle.numbering.specs.Keys.{packed, key, edgeKey, faceKey, keysIn};

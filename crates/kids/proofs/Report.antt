@@ -5,7 +5,7 @@ use native.Mathlib.Omega.{arith}
 use mathlib.Core.Path.{_≡_, refl, sym, _∙_, ap, ap₂}
 use mathlib.Core.List.{List, [], _∷_, _++_}
 use lib.ListN.{length, getD, drop, List·getD-append}
-use Rattle.binary64.specs.Answer.{Answer, answered, refused, left}
+use Rattle.answer.specs.Answer.{Answer, answered, refused, left}
 use Rattle.hxm.specs.Format.{nodeCount, meshAt, meshOf}
 use Rattle.hxm.proofs.Ladder.{Counted, passed-accepted}
 use Rattle.hxm.proofs.Long.{enough-to-tell}

@@ -3,7 +3,7 @@ use Prim.Native.Nat.{ℕ, _*_}
 use mathlib.Core.Path.{_≡_}
 use mathlib.Core.List.{List, [], _∷_, _++_}
 use lib.ListN.{take}
-use Rattle.binary64.specs.Answer.{Answer, answered, refused, andThen}
+use Rattle.answer.specs.Answer.{Answer, answered, refused, andThen}
 use Rattle.hxm.specs.Format.{Mesh, meshOf}
 use Rattle.numbering.specs.Refinement.{cellCount}
 use Rattle.refine.specs.Refine.{refined, allChildren}

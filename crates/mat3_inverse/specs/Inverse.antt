@@ -9,7 +9,7 @@ use Rattle.numbers.specs.Rule.{tabulate}
 use Rattle.numbers.specs.Arithmetic.{Arithmetic}
 use Rattle.integers.specs.Integers.{integers}
 use Rattle.binary64.specs.Binary64.{_⊘_, f1, isZero, floats}
-use Rattle.binary64.specs.Answer.{Answer, answered, refused, LosesNothing}
+use Rattle.answer.specs.Answer.{Answer, answered, refused, LosesNothing}
 use Rattle.mat3_col_major.specs.Mat3.{place, matrix, entry, productIn, detIn, det, diagonal}
 use Rattle.mat3_inverse.specs.declared.Inverse.{Inverse}
 use Rattle.mat3_inverse.specs.declared.Inverse.the-variants.{Of, ZeroDeterminant}

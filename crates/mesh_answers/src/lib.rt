@@ -1,14 +1,14 @@
-// What the answer of a descendant, a refinement or a mesh file leaves in lent memory, for C: its values and 0, or a refusal's number and nothing else (`Wrote`).
+// What the answer of a descendant, a refinement or a mesh file leaves in lent memory, for C: its values and 0, or a refusal's number and nothing else (`Leaves`).
 use descendant::Descended;
 use hxm::Reading;
 use refine::Refined;
-ghost use Rattle.binary64.specs.Answer.{Wrote};
+ghost use Rattle.answer.specs.Answer.{Leaves};
 ghost use Rattle.descendant.specs.Place.{told as descendedTold};
 ghost use Rattle.hxm.specs.Reads.{told as readingTold};
 ghost use Rattle.refine.specs.Refine.{told as refinedTold};
 
 pub fn put_descended(found: Descended, out: &mut [i32; 3]) -> u32
-    ensures { λ r. ⌜ Wrote (descendedTold found) r (now (out .entry)) (now (out .exit)) ⌝ }
+    ensures { λ r. ⌜ Leaves (descendedTold found) r (now (out .entry)) (now (out .exit)) ⌝ }
 {
     match found {
         Descended::At(x, y, z) => {
@@ -20,7 +20,7 @@ pub fn put_descended(found: Descended, out: &mut [i32; 3]) -> u32
 }
 
 pub fn put_refined(found: Refined, next: &mut u32) -> u32
-    ensures { λ r. ⌜ Wrote (refinedTold found) r (now (next .entry)) (now (next .exit)) ⌝ }
+    ensures { λ r. ⌜ Leaves (refinedTold found) r (now (next .entry)) (now (next .exit)) ⌝ }
 {
     match found {
         Refined::Next(free) => {
@@ -32,7 +32,7 @@ pub fn put_refined(found: Refined, next: &mut u32) -> u32
 }
 
 pub fn put_reading(found: Reading, counts: &mut [u32; 2]) -> u32
-    ensures { λ r. ⌜ Wrote (readingTold found) r (now (counts .entry)) (now (counts .exit)) ⌝ }
+    ensures { λ r. ⌜ Leaves (readingTold found) r (now (counts .entry)) (now (counts .exit)) ⌝ }
 {
     match found {
         Reading::Mesh(nodes, cells) => {

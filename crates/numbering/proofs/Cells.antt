@@ -15,7 +15,7 @@ use Rattle.numbers.proofs.Cases.{cases, never, fails}
 use Rattle.numbers.proofs.Table.{at}
 use Rattle.numbers.proofs.Tests.{first, second, all-at, all-at-pair}
 use Rattle.cell.specs.Edges.{end}
-use Rattle.cell.specs.Faults.{node, Sound}
+use Rattle.faults.specs.Faults.{node, Sound}
 use Rattle.hex.specs.Cube.{edges, idx2node}
 use Rattle.numbering.specs.FirstMet.{among}
 use Rattle.numbering.specs.Refinement.{within, sameNodes, edgeCorners, faceCorners, edgeNodes, faceNodes, OwnDiffer}

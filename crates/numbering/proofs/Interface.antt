@@ -14,7 +14,7 @@ use Rattle.numbers.proofs.All.{left-true, right-true}
 use Rattle.numbers.proofs.Cases.{cases, never, is-true}
 use Rattle.numbers.proofs.Tabulate.{tabulate-at}
 use Rattle.numbers.proofs.Tests.{first, second, all-at, all-at-pair}
-use Rattle.cell.specs.Faults.{node}
+use Rattle.faults.specs.Faults.{node}
 use Rattle.hex.specs.Cube.{ring}
 use Rattle.hex_children.specs.Children.{childNode}
 use Rattle.hex_children.specs.Children.{number as numberOf}

@@ -4,7 +4,7 @@ use mathlib.Core.Path.{_≡_}
 use mathlib.Core.Bool.{Bool, cond}
 use mathlib.Core.List.{List}
 use lib.ListN.{getD}
-use Rattle.cell.specs.Faults.{node}
+use Rattle.faults.specs.Faults.{node}
 use Rattle.hex.specs.Cube.{ring}
 use Rattle.numbering.specs.Refinement.{childNumbers}
 

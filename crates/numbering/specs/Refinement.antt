@@ -8,7 +8,7 @@ use lib.Dec.{T, eqb}
 use lib.ListN.{length}
 use Rattle.numbers.specs.Rule.{tabulate}
 use Rattle.cell.specs.Edges.{end}
-use Rattle.cell.specs.Faults.{node, Sound}
+use Rattle.faults.specs.Faults.{node, Sound}
 use Rattle.hex.specs.Cube.{edges, ring}
 use Rattle.hex_children.specs.Children.{children}
 use Rattle.numbering.specs.FirstMet.{among, different, placeOf, Sameness}

@@ -6,7 +6,7 @@ use mathlib.Core.List.{List, [], _∷_}
 use lib.Ieee.{Float}
 use Rattle.numbers.specs.Rule.{foldTo}
 use Rattle.binary64.specs.Binary64.{_⊕_, _⊗_, _⊘_, _!_, f0, f1, f2}
-use Rattle.binary64.specs.Answer.{Answer, answered, refused}
+use Rattle.answer.specs.Answer.{Answer, answered, refused}
 use Rattle.mat3_col_major.specs.Mat3.{det}
 use Rattle.cell.specs.Points.{pointCount, notWhole, notOneTo16, place, weight}
 use Rattle.prism_image.specs.Image.{jacobianAt}

@@ -8,7 +8,7 @@ use lib.Dec.{T, lit≤}
 use lib.Ieee.{Float, binary64, fits}
 use Rattle.numbers.proofs.Tests.{all-at}
 use Rattle.binary64.specs.Binary64.{_!_}
-use Rattle.binary64.specs.Answer.{Answer, answered, andThen}
+use Rattle.answer.specs.Answer.{Answer, answered, andThen}
 use Rattle.cell.specs.Image.{corner}
 use Rattle.cell.specs.Newton.{coords}
 use Rattle.cell.specs.declared.Point.{Point}
@@ -20,7 +20,7 @@ use Rattle.probe.specs.Demand.{AcceptedIsNear, NearIsAccepted, Floats, D
 use Rattle.probe.specs.declared.Verdict.{Verdict}
 use Rattle.probe.specs.declared.Verdict.the-variants.{Accepted}
 use Rattle.probe.specs.declared.Checked.{Checked}
-use Rattle.binary64.proofs.Answers.{passed, pass, then-answered, answered-same}
+use Rattle.answer.proofs.Answers.{passed, pass, then-answered, answered-same}
 use Rattle.probe.proofs.Image.{Good, Place, image-balance, image-close}
 use Rattle.probe.proofs.Inputs.{coordinate, good, tolerance, each-axis, all-axes}
 use Rattle.probe.proofs.Located.{located-inside, located-fits}

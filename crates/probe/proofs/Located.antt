@@ -8,13 +8,13 @@ use lib.Ieee.{Float, nan, binary64, fits}
 use lib.Ieee.Fits.{sub-fits}
 use Rattle.numbers.proofs.Tabulate.{tabulate-at}
 use Rattle.binary64.specs.Binary64.{_!_, _⊖_}
-use Rattle.binary64.specs.Answer.{answered, refused}
+use Rattle.answer.specs.Answer.{answered, refused, after}
 use Rattle.mat3_col_major.specs.Mat3.{transposed, product}
 use Rattle.mat3_inverse.specs.Inverse.{inverse}
-use Rattle.cell.specs.Newton.{lessBy, stepFrom, after, verdict}
+use Rattle.cell.specs.Newton.{lessBy, stepFrom, verdict}
 use Rattle.hex_image.specs.Image.{imageAt, jacobianAt}
 use Rattle.hex_locate.specs.Locate.{step, start, inside, located}
-use Rattle.binary64.proofs.Answers.{Answered, then-answered, answered-same, never}
+use Rattle.answer.proofs.Answers.{Answered, then-answered, answered-same, never}
 
 less-fits : (q d : List Float) (i : ℕ) → i < 3 → T (fits binary64 (lessBy q d ! i))
 less-fits q d i below =

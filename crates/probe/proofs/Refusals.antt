@@ -5,8 +5,8 @@ use mathlib.Core.Bool.{not}
 use mathlib.Core.List.{List, [], _∷_}
 use lib.Dec.{T}
 use lib.Ieee.{Float}
-use Rattle.binary64.specs.Answer.{answered, numberOf, isOneOf, RefusesBy}
-use Rattle.binary64.proofs.Answers.{refuses-unless, refuses-then, zero-tells-an-answer}
+use Rattle.answer.specs.Answer.{answered, numberOf, isOneOf, RefusesBy}
+use Rattle.answer.proofs.Answers.{refuses-unless, refuses-then, zero-tells-an-answer}
 use Rattle.cell.proofs.Refusals.{step-refuses, locate-refuses}
 use Rattle.hex_image.specs.Image.{imageAt, jacobianAt}
 use Rattle.hex_locate.specs.Locate.{step, start, inside, located}

@@ -5,7 +5,7 @@ use mathlib.Core.List.{List}
 use lib.Dec.{T}
 use lib.Ieee.{Float, binary64, fits}
 use Rattle.binary64.specs.Binary64.{_!_}
-use Rattle.binary64.specs.Answer.{answered}
+use Rattle.answer.specs.Answer.{answered}
 use Rattle.hex_locate.specs.Locate.{inside, located}
 use Rattle.probe.specs.Check.{goodCorners, goodTolerance, checked, locatedChecked}
 use Rattle.probe.specs.Exact.{AtMostTPlusE, AtMostTMinusE}

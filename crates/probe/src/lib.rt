@@ -6,7 +6,7 @@ ghost use mathlib.Core.Path.{_≡_};
 ghost use mathlib.Core.List.{List};
 ghost use lib.Dec.{T};
 ghost use lib.Ieee.{Float};
-ghost use Rattle.binary64.specs.Answer.{answered, andThen};
+ghost use Rattle.answer.specs.Answer.{answered, andThen};
 ghost use Rattle.cell.specs.Newton.{coords};
 ghost use Rattle.cell.specs.Newton as newton;
 ghost use Rattle.hex_locate.specs.Locate.{inside, located};

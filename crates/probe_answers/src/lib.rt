@@ -1,9 +1,9 @@
-// What the answer of a check, a checked locator or a list of proposals leaves in lent memory, for C: its values and 0, or a refusal's number and nothing else (`Wrote`).
+// What the answer of a check, a checked locator or a list of proposals leaves in lent memory, for C: its values and 0, or a refusal's number and nothing else (`Leaves`).
 use probe::Checked;
 use probe::Verdict;
 use proposals::Judged;
 ghost use mathlib.Core.Path.{_≡_};
-ghost use Rattle.binary64.specs.Answer.{Wrote, numberOf};
+ghost use Rattle.answer.specs.Answer.{Leaves, numberOf};
 ghost use Rattle.probe.specs.Check.{told as verdictTold, placeTold};
 ghost use Rattle.proposals.specs.Judgements.{told as judgedTold};
 
@@ -17,7 +17,7 @@ pub fn put_verdict(found: Verdict) -> u32
 }
 
 pub fn put_checked(found: Checked, at: &mut [f64; 3]) -> u32
-    ensures { λ r. ⌜ Wrote (placeTold found) r (now (at .entry)) (now (at .exit)) ⌝ }
+    ensures { λ r. ⌜ Leaves (placeTold found) r (now (at .entry)) (now (at .exit)) ⌝ }
 {
     match found {
         Checked::Inside(r, s, t) => {
@@ -29,7 +29,7 @@ pub fn put_checked(found: Checked, at: &mut [f64; 3]) -> u32
 }
 
 pub fn put_judged(found: Judged, accepted: &mut u32) -> u32
-    ensures { λ r. ⌜ Wrote (judgedTold found) r (now (accepted .entry)) (now (accepted .exit)) ⌝ }
+    ensures { λ r. ⌜ Leaves (judgedTold found) r (now (accepted .entry)) (now (accepted .exit)) ⌝ }
 {
     match found {
         Judged::Accepted(n) => {

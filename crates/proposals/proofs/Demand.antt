@@ -10,8 +10,8 @@ use lib.Ieee.{Float, binary64, fits}
 use mir.Val.{Val}
 use denote.Floats.{passes}
 use denote.Laws.{Is}
-use Rattle.binary64.specs.Answer.{answered, refused, numberOf, left}
-use Rattle.binary64.proofs.Answers.{never}
+use Rattle.answer.specs.Answer.{answered, refused, numberOf, left}
+use Rattle.answer.proofs.Answers.{never}
 use Rattle.cell.specs.Newton.{coords}
 use Rattle.probe.specs.Demand.{Floats}
 use Rattle.probe.proofs.Arguments.{point-fits}

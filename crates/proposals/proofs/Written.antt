@@ -10,7 +10,7 @@ use lib.Dec.{T, eqb, ltb, lit<}
 use lib.ListN.{length, getD, set, take, drop, length-map, List·getD-map}
 use lib.Seq.{length-take-le, length-front, take-length, paste-suc}
 use borrow.Author.Tests.{ltb-false}
-use Rattle.binary64.specs.Answer.{answered, refused, left}
+use Rattle.answer.specs.Answer.{answered, refused, left}
 use Rattle.proposals.specs.Judgements.{unlessRefused, zeros, zerosIn, orNone, turnsOf}
 
 -- the place of element i, in bytes, is a usize

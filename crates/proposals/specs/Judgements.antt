@@ -6,7 +6,7 @@ use lib.Dec.{eqb, ltb}
 use lib.Ieee.{Float}
 use lib.ListN.{length}
 use Rattle.numbers.specs.Rule.{sumOver}
-use Rattle.binary64.specs.Answer.{Answer, answered, refused, andThen, numberOf, LosesNothing}
+use Rattle.answer.specs.Answer.{Answer, answered, refused, andThen, numberOf, LosesNothing}
 use Rattle.cell.specs.Newton.{coords}
 use Rattle.probe.specs.Check.{checked}
 use Rattle.proposals.specs.declared.Proposal.{Proposal}

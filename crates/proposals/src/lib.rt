@@ -4,7 +4,7 @@ use probe::Verdict;
 ghost use Prim.Native.Nat.{ℕ};
 ghost use mathlib.Core.Path.{_≡_};
 ghost use lib.ListN.{length};
-ghost use Rattle.binary64.specs.Answer.{answered, left};
+ghost use Rattle.answer.specs.Answer.{answered, left};
 ghost use Rattle.proposals.specs.Demand.{ZeroIsNear, NearIsZero, Each};
 ghost use Rattle.proposals.specs.Judgements.{judgement, judgements, unlessRefused, zerosIn, turnsOf, told};
 

@@ -7,7 +7,7 @@ use mathlib.Core.List.{List, [], _++_, map, append-nil}
 use lib.ListN.{getD}
 use Rattle.numbers.specs.Rule.{tabulate}
 use Rattle.numbers.proofs.Prefix.{tabulate-where}
-use Rattle.cell.specs.Faults.{node, Sound}
+use Rattle.faults.specs.Faults.{node, Sound}
 use Rattle.hex_children.specs.Children.{children}
 use Rattle.numbering.specs.FirstMet.{meet}
 use Rattle.numbering.specs.Refinement.{Thing, centre, cellCount, edgeOf, faceOf, edgesOf, facesOf, chain, thingsTo, number, childNumbers}

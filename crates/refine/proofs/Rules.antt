@@ -13,7 +13,7 @@ use lib.Dec.{eqb}
 use lib.ListN.{length, getD}
 use Rattle.numbers.specs.Rule.{tabulate}
 use Rattle.numbers.proofs.Cases.{is-false}
-use Rattle.cell.specs.Faults.{node, Sound}
+use Rattle.faults.specs.Faults.{node, Sound}
 use Rattle.numbering.specs.FirstMet.{among}
 use Rattle.numbering.specs.Refinement.{Thing, edge, face, centre, sameNodes, same, cellCount, edgeNodes, faceNodes}
 use Rattle.numbering.specs.Refinement.{edgeOf, faceOf, edgesOf, facesOf, thingsOf, chain, thingsTo, things, number}

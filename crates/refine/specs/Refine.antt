@@ -4,8 +4,8 @@ use mathlib.Core.Bool.{cond, not}
 use mathlib.Core.List.{List}
 use lib.Dec.{eqb, ltb}
 use lib.ListN.{length}
-use Rattle.binary64.specs.Answer.{Answer, answered, refused, andThen, LosesNothing}
-use Rattle.cell.specs.Faults.{firstFault}
+use Rattle.answer.specs.Answer.{Answer, answered, refused, andThen, LosesNothing}
+use Rattle.faults.specs.Faults.{firstFault}
 use Rattle.numbering.specs.Refinement.{cellCount, chain, next, childNumbers}
 use Rattle.refine.specs.declared.Refined.{Refined}
 use Rattle.refine.specs.declared.Refined.the-variants.{Next, Refused}

@@ -6,9 +6,9 @@ use mathlib.Core.List.{List, [], _∷_}
 use lib.Dec.{T, eqb, eqb→eq, ltb, leb}
 use lib.Ieee.{Float}
 use lib.ListN.{length}
-use Rattle.binary64.specs.Answer.{Answer, answered, refused, isOneOf, RefusesBy}
-use Rattle.binary64.proofs.Answers.{refuses-unless, refuses-else, refuses-then}
-use Rattle.cell.specs.Faults.{inRange, different, fault, faultAt, orElse, firstTo, firstFault, node}
+use Rattle.answer.specs.Answer.{Answer, answered, refused, isOneOf, RefusesBy}
+use Rattle.answer.proofs.Answers.{refuses-unless, refuses-else, refuses-then}
+use Rattle.faults.specs.Faults.{inRange, different, fault, faultAt, orElse, firstTo, firstFault, node}
 use Rattle.cell.specs.Points.{pointCount, notWhole, notOneTo16}
 use Rattle.cell.proofs.Refusals.{inverse-refuses, step-refuses, locate-refuses}
 use Rattle.prism_image.specs.Image.{imageAt, jacobianAt}

@@ -3,7 +3,7 @@
 use Prim.Native.Nat.{ℕ}
 use mathlib.Core.List.{List, [], _∷_}
 use lib.Ieee.{Float}
-use Rattle.binary64.specs.Answer.{RefusesBy}
+use Rattle.answer.specs.Answer.{RefusesBy}
 use Rattle.mat3_inverse.specs.Inverse.{inverse}
 use Rattle.hex_locate.specs.Locate as Hex
 use Rattle.prism_locate.specs.Locate as Prism

@@ -9,7 +9,7 @@ use lib.IntN.{ℤ, pos, negsuc}
 use lib.ListN.{set}
 use Rattle.numbers.specs.Rule.{tabulate, grid}
 use Rattle.binary64.specs.Binary64.{f0, f1, m1}
-use Rattle.binary64.specs.Answer.{Answer, answered, refused}
+use Rattle.answer.specs.Answer.{Answer, answered, refused}
 use Rattle.hex.specs.Cube.{upper}
 use Rattle.hex_shape.specs.Shape as Hex
 use Rattle.prism_shape.specs.Shape as Prism

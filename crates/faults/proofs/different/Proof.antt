@@ -4,7 +4,7 @@ use native.Mathlib.Numerals.{add-one}
 use native.Mathlib.Omega.{arith}
 use mathlib.Core.Path.{_≡_, refl}
 use borrow.Author.Needs.{needs}
-use Rattle.cell.specs.Faults.{names, different}
+use Rattle.faults.specs.Faults.{names, different}
 use Rattle.faults.proofs.different.Statement.{statement}
 use Rattle.faults.proofs.different.Tie as tie
 

@@ -6,9 +6,9 @@ use mathlib.Core.List.{List}
 use borrow.Author.Needs.{needs}
 use lib.ListN.{length}
 use Rattle.numbers.specs.Rule.{tabulate}
-use Rattle.cell.specs.Faults.{node, names, fault, faultAt, firstTo}
+use Rattle.faults.specs.Faults.{node, names, fault, faultAt, firstTo}
 use Rattle.numbers.proofs.Tabulate.{tabulate-at}
-use Rattle.cell.proofs.Faults.{first-more, first-stays, fault-alike}
+use Rattle.faults.proofs.Faults.{first-more, first-stays, fault-alike}
 use Rattle.faults.proofs.first_fault.Statement.{statement}
 use Rattle.faults.proofs.first_fault.Tie as tie
 

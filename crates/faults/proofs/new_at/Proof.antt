@@ -5,7 +5,7 @@ use native.Mathlib.Omega.{arith}
 use mathlib.Core.Path.{_≡_, refl}
 use borrow.Author.Needs.{needs}
 use Rattle.numbers.specs.Rule.{all}
-use Rattle.cell.specs.Faults.{names, differs}
+use Rattle.faults.specs.Faults.{names, differs}
 use Rattle.faults.proofs.new_at.Statement.{statement}
 use Rattle.faults.proofs.new_at.Tie as tie
 

@@ -6,7 +6,7 @@ use mathlib.Core.Path.{_≡_, refl}
 use borrow.Author.Needs.{needs}
 use borrow.Author.Tests.{le-leb, lt-leb}
 use lib.Ieee.{Float}
-use Rattle.binary64.specs.Answer.{Answer, refused, Wrote}
+use Rattle.answer.specs.Answer.{Answer, refused, Leaves}
 use Rattle.hex_weighted_gradient.specs.Weighted.{weightedGradient}
 use Rattle.hex_weighted_gradient.proofs.weighted_gradient.Statement.{statement}
 use Rattle.hex_weighted_gradient.proofs.weighted_gradient.Tie as tie
@@ -16,7 +16,7 @@ abbrev found : tie.Start → Answer (List Float × Float)
 found c = weightedGradient (c .args .node2xyz .now) (c .args .quadrature .now) (c .args .ir1) (c .args .ir2) (c .args .ir3)
 
 -- a refusal leaves what was lent as it was
-refuses : {A : Type 0} (a : Answer A) (n : ℕ) (old : A) → a ≡ refused n → Wrote a n old old
+refuses : {A : Type 0} (a : Answer A) (n : ℕ) (old : A) → a ≡ refused n → Leaves a n old old
 refuses a n old e = rw e (refl, refl)
 
 returns : tie.Need-returns

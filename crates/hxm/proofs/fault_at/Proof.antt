@@ -9,8 +9,8 @@ use Rattle.numbers.specs.Rule.{tabulate}
 use Rattle.numbers.specs.Little.{numberAt, numbersAt}
 use Rattle.numbers.proofs.Stored.{length-tabulate}
 use Rattle.numbers.proofs.Tabulate.{tabulate-at}
-use Rattle.cell.specs.Faults.{node, names, fault, faultAt, firstTo}
-use Rattle.cell.proofs.Faults.{first-more, first-stays, fault-alike}
+use Rattle.faults.specs.Faults.{node, names, fault, faultAt, firstTo}
+use Rattle.faults.proofs.Faults.{first-more, first-stays, fault-alike}
 use Rattle.hxm.proofs.fault_at.Statement.{statement}
 use Rattle.hxm.proofs.fault_at.Tie as tie
 

@@ -40,8 +40,8 @@ use denote.Triple.Spec.{Meets, tripleOf}
 use denote.Triple.Statement.{Contract, Triple}
 use denote.Triple.Table.{entered, cited}
 use denote.Triple.Walked.{Stays, stay-dropped, gave-slice, gave-ref, walkOf, ends-at, walked, goes-dropped, goes-gave-slice, goes-gave-ref, walk-meets}
-use Rattle.binary64.specs.Answer.{Answer, answered, Wrote, left}
-use Rattle.binary64.proofs.Answers.{wrote-zero}
+use Rattle.answer.specs.Answer.{Answer, answered, Leaves, left}
+use Rattle.answer.proofs.Answers.{leaves-zero}
 use Rattle.proposals.specs.Demand.{ZeroIsNear, NearIsZero, Each}
 use Rattle.proposals.specs.Judgements.{judgements, zerosIn, told}
 use Rattle.proposals.specs.declared.Proposal.{Proposal}
@@ -140,10 +140,10 @@ module _ {M : Type 1} (𝓤 : URA M) (H : Heap 𝓤) (A : Atoms 𝓤) (W : Given
   Complete r new = (n : ℕ) → told r ≡ answered n → Each NearIsZero c ps new
 
   -- which 0 tells
-  judged : (r : Judged) (number new : ℕ) → told r ≡ zerosIn found → Wrote (told r) number old new → number ≡ 0 → told r ≡ answered new
+  judged : (r : Judged) (number new : ℕ) → told r ≡ zerosIn found → Leaves (told r) number old new → number ≡ 0 → told r ≡ answered new
   judged r number new answers wrote zero =
-      answers ∙ wrote-zero _ (zerosIn found) number old new tt (refusals-numbered .ofProposals c ps (length os))
-      (subst (λ (a : Answer ℕ). Wrote a number old new) answers wrote) zero
+      answers ∙ leaves-zero _ (zerosIn found) number old new tt (refusals-numbered .ofProposals c ps (length os))
+      (subst (λ (a : Answer ℕ). Leaves a number old new) answers wrote) zero
 
   -- what the callees are passed
   abbrev to-face : Face 𝓤 H A mem run .Ghost
@@ -199,14 +199,14 @@ module _ {M : Type 1} (𝓤 : URA M) (H : Heap 𝓤) (A : Atoms 𝓤) (W : Given
       calls-one ! (fmOf 𝓤 H (W .laws) 𝓣) put.ended (put.clauses 𝓤 H A mem run) (met .1) (to-put r v)
       (and-then ! (value-of ! 14 refl) (and-then ! (value-of ! 22 refl) (no-more !))) (λ w number numbered.
       use1 W (some (λ (ws′ : Unit {0} × (ℕ × Unit {0})).
-      ‵ (lasts put.ended (κ₃, tt) (r, (accepted, tt)) ws′) ⊛ raw (fact 𝓤 (Wrote (told r) number old (ws′ .1 .0))))) (id⊢ 𝓤 _) $ pick ! (λ ws′.
-      split ! $ move ! (1 ∷ []) $ heard ! (Wrote (told r) number old (ws′ .1 .0)) (λ wrote. fsplit ! $ drop ! $
+      ‵ (lasts put.ended (κ₃, tt) (r, (accepted, tt)) ws′) ⊛ raw (fact 𝓤 (Leaves (told r) number old (ws′ .1 .0))))) (id⊢ 𝓤 _) $ pick ! (λ ws′.
+      split ! $ move ! (1 ∷ []) $ heard ! (Leaves (told r) number old (ws′ .1 .0)) (λ wrote. fsplit ! $ drop ! $
       -- [the last count; its token; the number; the last numbers; tokens; corners' token; locals]
       lands-in ! (init ! 6 refl (uint-lawful 𝓤 H A W w32 .typed number _ numbered .0)) $ returns ! (look ! 6 refl) $ move ! (span 6 20 []) $
       free-held ! $ free-held ! $ free-held ! $ free-held ! $ free-held ! $ free-held ! $ free-held ! $ free-held ! $ free-held ! $ free-held ! $ free0 ! $
       suffices ! _ (ends-at 𝓤 H A self.ended stayed (self.clauses 𝓤 H A mem run) W bound w number
       (tt, (tt, (ws .1 .1 .0, (ws′ .1 .0, tt)))) (tt, (tt, (same, (tt, tt))))) $
-      says-all ! (subst (λ (a : Answer ℕ). Wrote a number old (ws′ .1 .0)) answers wrote) leaves
+      says-all ! (subst (λ (a : Answer ℕ). Leaves a number old (ws′ .1 .0)) answers wrote) leaves
       (λ zero. sound _ (judged r number (ws′ .1 .0) answers wrote zero)) (λ zero. complete _ (judged r number (ws′ .1 .0) answers wrote zero)) $
       move ! (4 ∷ []) $ use1 W (‵ (flft κ₁ q₁) ⊛ ‵ (flft κ₂ q₂) ⊛ ‵ ftrue) (id⊢ 𝓤 _) $ split ! $ move ! (1 ∷ []) $ split ! $
       move ! (0 ∷ 4 ∷ []) $ join ! $ move ! (2 ∷ 0 ∷ []) $ join ! $ move ! (5 ∷ 0 ∷ []) $ join ! $ frame ! $

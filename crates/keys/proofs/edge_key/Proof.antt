@@ -1,7 +1,7 @@
 -- `keys::edge_key` meets its contract: the smaller end is the lower digit. Assumes nothing.
 use borrow.Author.Needs.{needs}
 use Rattle.cell.specs.Edges.{end}
-use Rattle.cell.specs.Faults.{node}
+use Rattle.faults.specs.Faults.{node}
 use Rattle.hex.specs.Cube.{edges}
 use Rattle.numbering.proofs.Keys.{pair-key}
 use Rattle.keys.proofs.edge_key.Statement.{statement}

@@ -3,7 +3,7 @@ use Prim.Native.Nat.{ℕ, _+_, _*_}
 use mathlib.Core.Path.{_∙_}
 use borrow.Author.Needs.{needs}
 use lib.ListN.{getD}
-use Rattle.cell.specs.Faults.{node}
+use Rattle.faults.specs.Faults.{node}
 use Rattle.hex.specs.Cube.{idx2node}
 use Rattle.numbering.proofs.Keys.{four-key}
 use Rattle.keys.proofs.face_key.Statement.{statement}

@@ -51,7 +51,7 @@ use denote.Triple.Spec.{Meets, tripleOf}
 use denote.Triple.Statement.{Contract, Triple}
 use denote.Triple.Table.{entered, cited}
 use denote.Triple.Walked.{Stays, stay-dropped, gave-slice, walkOf, ends-at, walked, goes-dropped, goes-gave-slice, walk-meets}
-use Rattle.binary64.specs.Answer.{answered, left}
+use Rattle.answer.specs.Answer.{answered, left}
 use Rattle.rounding.proofs.Arguments.{array-fits}
 use Rattle.proposals.specs.Demand.{none, proposal}
 use Rattle.proposals.specs.Judgements.{judgement, judgements, unlessRefused, zeros, zerosIn, turnsOf, told}

@@ -3,7 +3,7 @@ use Prim.Native.Nat.{ℕ}
 use mathlib.Core.Path.{_≡_, refl}
 use mathlib.Core.Bool.{Bool, true, false, _||_, cond}
 use lib.Dec.{ltb}
-use Rattle.binary64.specs.Answer.{answered, refused}
+use Rattle.answer.specs.Answer.{answered, refused}
 use Rattle.proposals.specs.Judgements.{orNone, turnsOf}
 use Rattle.proposals.proofs.turns.Statement.{statement}
 use Rattle.proposals.proofs.turns.Tie as tie

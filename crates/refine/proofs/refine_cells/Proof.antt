@@ -6,7 +6,7 @@ use mathlib.Core.Path.{_≡_, refl, ap, _∙_}
 use mathlib.Core.List.{_++_}
 use borrow.Author.Needs.{needs}
 use lib.ListN.{length, drop}
-use Rattle.cell.proofs.Faults.{faultless-is-sound}
+use Rattle.faults.proofs.Faults.{faultless-is-sound}
 use Rattle.numbering.specs.Refinement.{cellCount, chain, given, childNumbers}
 use Rattle.numbering.specs.Keys.{edgeKey, faceKey}
 use Rattle.refine.proofs.Cell.{Standing, stands-first, one-more}

@@ -11,7 +11,7 @@ use lib.Dec.{eqb, ltb, eqb·suc-zero}
 use lib.ListN.{length}
 use borrow.Author.Tests.{ne-eqb, eqb-false, ltb-true, lt-ltb, not-true}
 use Rattle.numbers.proofs.All.{all-each, all-where, all-alike}
-use Rattle.cell.specs.Faults.{node, differs, newAt, inRange, different, fault, faultAt, orElse, firstTo, Sound, FaultlessIsSound}
+use Rattle.faults.specs.Faults.{node, differs, newAt, inRange, different, fault, faultAt, orElse, firstTo, Sound, FaultlessIsSound}
 
 no-test : (a b : Bool) → _≡_ {A = ℕ} (cond a (cond b 0 10) 9) 0 → (a ≡ true) × (b ≡ true)
 no-test true true e = (refl, refl)

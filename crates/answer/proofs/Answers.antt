@@ -5,7 +5,7 @@ use mathlib.Core.Path.{_≡_, refl, sym, _∙_, subst}
 use mathlib.Core.Bool.{Bool, true, false, not, cond}
 use mathlib.Core.List.{List}
 use lib.Dec.{T}
-use Rattle.binary64.specs.Answer.{Answer, answered, refused, andThen, numberOf, Wrote, isOneOf, RefusesBy, ZeroTellsAnAnswer}
+use Rattle.answer.specs.Answer.{Answer, answered, refused, andThen, numberOf, Leaves, isOneOf, RefusesBy, ZeroTellsAnAnswer}
 
 -- ---- two answers that are one
 pub answered-same : {A : Type 0} {v w : A} → answered v ≡ answered w → v ≡ w
@@ -48,14 +48,14 @@ pub zero-tells-an-answer : (A : Type 0) → ZeroTellsAnAnswer A
 zero-tells-an-answer A ns (answered v) without one zero = (v, refl)
 zero-tells-an-answer A ns (refused n) without one zero = absurd (none-is-zero ns n without one zero)
 
-pub wrote-zero : {A : Type 0} (ns : List ℕ) (a : Answer A) (r : ℕ) (old new : A) → T (not (isOneOf ns 0)) → RefusesBy ns a → Wrote a r old new → r ≡ 0
+pub leaves-zero : {A : Type 0} (ns : List ℕ) (a : Answer A) (r : ℕ) (old new : A) → T (not (isOneOf ns 0)) → RefusesBy ns a → Leaves a r old new → r ≡ 0
     → a ≡ answered new
-wrote-zero ns (answered v) r old new without one wrote zero = let same : new ≡ v = wrote .1 in cc
-wrote-zero ns (refused n) r old new without one wrote zero = absurd (none-is-zero ns n without one (sym (wrote .0) ∙ zero))
+leaves-zero ns (answered v) r old new without one wrote zero = let same : new ≡ v = wrote .1 in cc
+leaves-zero ns (refused n) r old new without one wrote zero = absurd (none-is-zero ns n without one (sym (wrote .0) ∙ zero))
 
-pub wrote-answered : {A : Type 0} (a : Answer A) (r : ℕ) (old new v : A) → Wrote a r old new → a ≡ answered v → (r ≡ 0) × (new ≡ v)
-wrote-answered (answered w) r old new v wrote e = (wrote .0, wrote .1 ∙ answered-same e)
-wrote-answered (refused n) r old new v wrote e = absurd (never n v e)
+pub leaves-answered : {A : Type 0} (a : Answer A) (r : ℕ) (old new v : A) → Leaves a r old new → a ≡ answered v → (r ≡ 0) × (new ≡ v)
+leaves-answered (answered w) r old new v wrote e = (wrote .0, wrote .1 ∙ answered-same e)
+leaves-answered (refused n) r old new v wrote e = absurd (never n v e)
 
 -- ---- the numbers of a ladder
 module _ {A : Type 0} (ns : List ℕ) where

@@ -1,5 +1,5 @@
 -- What an entry answers. Document 01: "A refusal returns its number and no other data." Definitions and claims only.
-use Prim.Native.Nat.{ℕ}
+use Prim.Native.Nat.{ℕ, zero, suc}
 use mathlib.Core.Path.{_≡_}
 use mathlib.Core.Bool.{Bool, false, not, _||_}
 use mathlib.Core.List.{List, [], _∷_, _++_}
@@ -16,14 +16,19 @@ abbrev pub andThen : {A B : Type 0} → Answer A → (A → Answer B) → Answer
 andThen (answered a) f = f a
 andThen (refused n) f = refused n
 
+-- n steps from a start; where one is refused, so is what follows
+unfoldable pub after : {A : Type 0} → (A → Answer A) → A → ℕ → Answer A
+after step start zero = answered start
+after step start (suc n) = andThen (after step start n) step
+
 -- f tells any two values apart: what is said of f x leaves one possible x
 abbrev pub LosesNothing : {A B : Type 0} → (A → B) → Type 0
 LosesNothing {A = A} f = (x y : A) → f x ≡ f y → x ≡ y
 
 -- what a function that returns r has left of a lent buffer: 0 and the values, or the refusal's number and what the buffer held
-abbrev pub Wrote : {A : Type 0} → Answer A → ℕ → A → A → Type 0
-Wrote (answered a) r old new = (r ≡ 0) × (new ≡ a)
-Wrote (refused n) r old new = (r ≡ n) × (new ≡ old)
+abbrev pub Leaves : {A : Type 0} → Answer A → ℕ → A → A → Type 0
+Leaves (answered a) r old new = (r ≡ 0) × (new ≡ a)
+Leaves (refused n) r old new = (r ≡ n) × (new ≡ old)
 
 -- what a function that has no buffer returns
 abbrev pub numberOf : {A : Type 0} → Answer A → ℕ
