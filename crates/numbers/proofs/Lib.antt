@@ -6,6 +6,7 @@ pub mod Fold
 pub mod Largest
 pub mod Little
 pub mod Prefix
+pub mod Slots
 pub mod Stored
 pub mod Table
 pub mod Tabulate

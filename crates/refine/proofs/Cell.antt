@@ -16,7 +16,7 @@ use Rattle.numbering.proofs.Steps.{nextAfter}
 use Rattle.refine.specs.Search.{Agrees, Numbers, row, childrenOf}
 use Rattle.refine.proofs.Output.{same-children}
 use Rattle.refine.proofs.Rules.{edgeNumber, faceNumber, edge-rule, face-rule, centre-rule}
-use Rattle.refine.proofs.Slots.{row-next, slot-row, slot-place}
+use Rattle.numbers.proofs.Slots.{row-next, slot-row, slot-place}
 
 -- before cell c the lists hold the numbers of the edges and faces of the cells passed, and the next number is the one after what they have
 pub record Standing (n : ℕ) (cells edges faces : List ℕ) (c next : ℕ) : Type 0 where

@@ -2,5 +2,4 @@ pub mod Cell
 pub mod Output
 pub mod Rules
 pub mod Search
-pub mod Slots
 pub mod Told

@@ -24,7 +24,7 @@ use Rattle.numbering.proofs.Keys.{keys-tell}
 use Rattle.numbering.proofs.Cells.{edge-nodes, face-nodes, own-parts-differ}
 use Rattle.numbering.proofs.Steps.{chain-past, chain-has, chain-found, tabulate-has, tabulate-found, nextAfter, known, new, keeps}
 use Rattle.refine.specs.Search.{Rule, Agrees}
-use Rattle.refine.proofs.Slots.{slot-row, slot-place, row-of, row-within}
+use Rattle.numbers.proofs.Slots.{slot-row, slot-place, row-of, row-within}
 
 -- What edges and faces have in common: w of them in each cell, each made of its nodes.
 pub record Kind (cells : List ℕ) (w : ℕ) (make : List ℕ → Thing) (nodes : ℕ → ℕ → List ℕ) : Type 0 where

@@ -6,7 +6,7 @@ use mathlib.Core.Path.{_≡_, refl}
 use borrow.Author.Needs.{needs}
 use Rattle.refine.specs.Search.{Missing}
 use Rattle.refine.proofs.Search.{missing-more}
-use Rattle.refine.proofs.Slots.{row-next, row-within}
+use Rattle.numbers.proofs.Slots.{row-next, row-within}
 use Rattle.refine.proofs.find.Statement.{statement}
 use Rattle.refine.proofs.find.Tie as tie
 

@@ -1,4 +1,4 @@
--- Rows of w slots, one row a cell, in one flat list. Assumes nothing.
+-- Rows of w slots, one row behind another, in one flat list. Assumes nothing.
 use Prim.Native.Nat.{ℕ, suc, _+_, _*_, _/_, _%_, _≤_, _<_}
 use native.Mathlib.Nat.{mul-le-mul-left, mul-suc, mul-comm, mul-add-div, mul-add-mod-self-left, mod-eq-of-lt, div-eq-of-lt, div-lt-iff-lt-mul, add-zero}
 use native.Mathlib.Numerals.{add-one}
