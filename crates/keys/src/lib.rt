@@ -7,7 +7,7 @@ ghost use Rattle.cell.specs.Edges.{end};
 ghost use Rattle.faults.specs.Faults.{node};
 ghost use Rattle.hex.specs.Cube.{edges, idx2node};
 ghost use Rattle.numbering.specs.Refinement.{cellCount, edgeNodes, faceNodes};
-ghost use Rattle.numbering.specs.Keys.{packed, key, edgeKey, faceKey, keysIn};
+ghost use Rattle.keys.specs.Keys.{packed, key, edgeKey, faceKey, keysIn};
 
 fn low(a: u32, b: u32) -> u32
     ensures { λ r. ⌜ r ≡ min a b ⌝ }
@@ -21,11 +21,11 @@ fn high(a: u32, b: u32) -> u32
     if a < b { b } else { a }
 }
 
-// Four numbers as the digits of one, base 1,024.
+// Four numbers as the digits of one, base 1,024, the first digit highest.
 fn digits(a: u32, b: u32, c: u32, d: u32) -> u64
     ensures { λ r. ⌜ r ≡ packed (a ∷ b ∷ c ∷ d ∷ []) ⌝ }
 {
-    a as u64 + 1024 * (b as u64 + 1024 * (c as u64 + 1024 * (d as u64)))
+    d as u64 + 1024 * (c as u64 + 1024 * (b as u64 + 1024 * (a as u64)))
 }
 
 // End s of edge e of cell c.
@@ -51,7 +51,7 @@ fn edge_key(cells: &[u32], c: usize, e: usize) -> u64
 {
     let a = edge_node(cells, c, e, 0);
     let b = edge_node(cells, c, e, 1);
-    low(a, b) as u64 + 1024 * (high(a, b) as u64)
+    high(a, b) as u64 + 1024 * (low(a, b) as u64)
 }
 
 // The nodes of a face in rising order, as the digits of one number.

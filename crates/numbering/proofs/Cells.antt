@@ -1,6 +1,6 @@
 -- In a cell without a fault the nodes of an edge or a face are different numbers, and so its edges differ, and its faces: the rows of the tables do, which is
 -- one computed test each, and the cell's nodes differ where their corners do. Assumes nothing.
-use Prim.Native.Nat.{ℕ, _≤_, _<_}
+use Prim.Native.Nat.{ℕ, _<_}
 use native.Mathlib.Nat.{eq-or-lt-of-le}
 use native.Mathlib.Omega.{arith}
 use mathlib.Core.Path.{_≡_, refl, sym, ap, _∙_}
@@ -17,10 +17,14 @@ use Rattle.numbers.proofs.Tests.{first, second, all-at, all-at-pair}
 use Rattle.cell.specs.Edges.{end}
 use Rattle.faults.specs.Faults.{node, Sound}
 use Rattle.hex.specs.Cube.{edges, idx2node}
-use Rattle.numbering.specs.FirstMet.{among}
+use Rattle.numbers.specs.FirstMet.{among, apart}
 use Rattle.numbering.specs.Refinement.{within, sameNodes, edgeCorners, faceCorners, edgeNodes, faceNodes, OwnDiffer}
-use Rattle.numbering.specs.Keys.{apart, Nodes}
 use Rattle.numbering.proofs.Same.{faces-same}
+
+-- different node numbers of n
+pub record Different (n : ℕ) (ps : List ℕ) : Type 0 where
+  pub below : (x : ℕ) → among eqb ps x ≡ true → x < n
+  pub differ : T (apart eqb ps)
 
 -- all of these are corners
 abbrev corners : List ℕ → Bool
@@ -60,7 +64,7 @@ module _ (n : ℕ) (f : ℕ → ℕ) (sound : Sound n 8 f) where
   same-map : (ps qs : List ℕ) → T (corners ps) → T (corners qs) → sameNodes (map f ps) (map f qs) ≡ sameNodes ps qs
   same-map ps qs hp hq = rw (within-map ps qs hp hq, within-map qs ps hq hp)
 
-  apart-map : (ps : List ℕ) → T (corners ps) → apart (map f ps) ≡ apart ps
+  apart-map : (ps : List ℕ) → T (corners ps) → apart eqb (map f ps) ≡ apart eqb ps
   apart-map [] h = refl
   apart-map (p ∷ ps) h =
       let rest = tail-are p ps h in
@@ -75,20 +79,20 @@ module _ (n : ℕ) (f : ℕ → ℕ) (sound : Sound n 8 f) where
 
 -- a table of w rows of different corners, no two rows the same
 abbrev goodRow : (ℕ → List ℕ) → ℕ → Bool
-goodRow row i = corners (row i) && apart (row i)
+goodRow row i = corners (row i) && apart eqb (row i)
 
 abbrev ownRow : (ℕ → List ℕ) → ℕ → Bool
 ownRow row k = all k (λ (i : ℕ). not (sameNodes (row i) (row k)))
 
 module _ (n : ℕ) (f : ℕ → ℕ) (sound : Sound n 8 f) (w : ℕ) (row : ℕ → List ℕ) (good : T (all w (goodRow row))) (own : T (all w (ownRow row))) where
   here : (i : ℕ) → i < w → T (corners (row i))
-  here i h = first (corners (row i)) (apart (row i)) (all-at w (goodRow row) good i h)
+  here i h = first (corners (row i)) (apart eqb (row i)) (all-at w (goodRow row) good i h)
 
-  nodes : n ≤ 1024 → (i : ℕ) → i < w → Nodes (map f (row i))
-  nodes few i h =
+  row-nodes : (i : ℕ) → i < w → Different n (map f (row i))
+  row-nodes i h =
       record {
-        small = λ x m. let less = small-map n f sound (row i) (here i h) x m in omega arith;
-        differ = rw (apart-map n f sound (row i) (here i h)) (second (corners (row i)) (apart (row i)) (all-at w (goodRow row) good i h));
+        below = small-map n f sound (row i) (here i h);
+        differ = rw (apart-map n f sound (row i) (here i h)) (second (corners (row i)) (apart eqb (row i)) (all-at w (goodRow row) good i h));
       }
 
   own-differ : (i k : ℕ) → i < k → k < w → sameNodes (map f (row i)) (map f (row k)) ≡ false
@@ -96,12 +100,12 @@ module _ (n : ℕ) (f : ℕ → ℕ) (sound : Sound n 8 f) (w : ℕ) (row : ℕ 
       same-map n f sound (row i) (row k) (here i (omega arith)) (here k h)
       ∙ fails (sameNodes (row i) (row k)) (all-at k (λ (i : ℕ). not (sameNodes (row i) (row k))) (all-at w (ownRow row) own k h) i less)
 
-module _ (n : ℕ) (cells : List ℕ) (c : ℕ) (sound : Sound n 8 (node 8 cells c)) (few : n ≤ 1024) where
-  pub edge-nodes : (e : ℕ) → e < 12 → Nodes (edgeNodes cells c e)
-  edge-nodes = nodes n (node 8 cells c) sound 12 edgeCorners tt tt few
+module _ (n : ℕ) (cells : List ℕ) (c : ℕ) (sound : Sound n 8 (node 8 cells c)) where
+  pub edge-nodes : (e : ℕ) → e < 12 → Different n (edgeNodes cells c e)
+  edge-nodes = row-nodes n (node 8 cells c) sound 12 edgeCorners tt tt
 
-  pub face-nodes : (f : ℕ) → f < 6 → Nodes (faceNodes cells c f)
-  face-nodes = nodes n (node 8 cells c) sound 6 faceCorners tt tt few
+  pub face-nodes : (f : ℕ) → f < 6 → Different n (faceNodes cells c f)
+  face-nodes = row-nodes n (node 8 cells c) sound 6 faceCorners tt tt
 
 pub own-parts-differ : OwnDiffer
 own-parts-differ =

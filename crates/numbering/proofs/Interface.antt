@@ -18,7 +18,7 @@ use Rattle.faults.specs.Faults.{node}
 use Rattle.hex.specs.Cube.{ring}
 use Rattle.hex_children.specs.Children.{childNode}
 use Rattle.hex_children.specs.Children.{number as numberOf}
-use Rattle.numbering.specs.FirstMet.{among}
+use Rattle.numbers.specs.FirstMet.{among}
 use Rattle.numbering.specs.Refinement.{edge, face, centre, within, sameNodes, edgeCorners, faceCorners}
 use Rattle.numbering.specs.Refinement.{edgeOf, faceOf, edgesOf, facesOf, number, childNumbers}
 use Rattle.numbering.specs.Interface.{childFace, turned, OneInterface}

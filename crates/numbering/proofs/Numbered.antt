@@ -1,4 +1,4 @@
--- The numbers n .. next - 1 are each given out once, to what is the same, and they are counted by kind. Assumes nothing.
+-- The numbers n .. next - 1 are each given out once, to what is the same, and they are counted by sort. Assumes nothing.
 use Prim.Native.Nat.{ℕ, zero, suc, _+_, _-_, _≤_, _<_}
 use native.Mathlib.Numerals.{add-one}
 use native.Mathlib.Omega.{arith}
@@ -10,10 +10,10 @@ use borrow.Author.Tests.{ne-eqb}
 use lib.Dec.{T, eqb}
 use lib.ListN.{length, length-append}
 use Rattle.numbers.proofs.Cases.{cases, never, is-true, passes, is-false}
-use Rattle.numbering.specs.FirstMet.{among, meet, different, placeOf}
+use Rattle.numbers.specs.FirstMet.{among, meet, different, placeOf}
 use Rattle.numbering.specs.Refinement.{Thing, edge, face, centre, same, edgesOf, facesOf, thingsOf, things}
 use Rattle.numbering.specs.Refinement.{cellCount, chain, given, number, next, IsMet, countOf, NumberedOnce}
-use Rattle.numbering.proofs.FirstMet.{among-append, among-meet, place-below, place-alike, place-tells, meet-append, meet-new, every-place, none-yet}
+use Rattle.numbers.proofs.FirstMet.{among-append, among-meet, place-below, place-alike, place-tells, meet-append, meet-new, every-place, none-yet}
 use Rattle.numbering.proofs.Same.{same-things}
 use Rattle.numbering.proofs.Steps.{chain-has}
 
@@ -63,37 +63,37 @@ unfolding chain
 keep-chain p zero f = refl
 keep-chain p (suc c) f = keep-append p (chain c f) (f c) ∙ rw (keep-chain p c f)
 
--- the three kinds
-abbrev kind : Thing → ℕ
-kind (edge ps) = 0
-kind (face ps) = 1
-kind (centre c) = 2
+-- the three sorts
+abbrev sort : Thing → ℕ
+sort (edge ps) = 0
+sort (face ps) = 1
+sort (centre c) = 2
 
-abbrev isKind : ℕ → Thing → Bool
-isKind k x = eqb (kind x) k
+abbrev isSort : ℕ → Thing → Bool
+isSort k x = eqb (sort x) k
 
-same-kind : (x y : Thing) → same x y ≡ true → kind x ≡ kind y
-same-kind (edge ps) (edge qs) h = refl
-same-kind (edge ps) (face qs) h = never (sym h)
-same-kind (edge ps) (centre d) h = never (sym h)
-same-kind (face ps) (edge qs) h = never (sym h)
-same-kind (face ps) (face qs) h = refl
-same-kind (face ps) (centre d) h = never (sym h)
-same-kind (centre c) (edge qs) h = never (sym h)
-same-kind (centre c) (face qs) h = never (sym h)
-same-kind (centre c) (centre d) h = refl
+same-sort : (x y : Thing) → same x y ≡ true → sort x ≡ sort y
+same-sort (edge ps) (edge qs) h = refl
+same-sort (edge ps) (face qs) h = never (sym h)
+same-sort (edge ps) (centre d) h = never (sym h)
+same-sort (face ps) (edge qs) h = never (sym h)
+same-sort (face ps) (face qs) h = refl
+same-sort (face ps) (centre d) h = never (sym h)
+same-sort (centre c) (edge qs) h = never (sym h)
+same-sort (centre c) (face qs) h = never (sym h)
+same-sort (centre c) (centre d) h = refl
 
-by-kind : (xs : List Thing) → length xs ≡ length (keep (isKind 0) xs) + length (keep (isKind 1) xs) + length (keep (isKind 2) xs)
-by-kind [] = refl
-by-kind (edge ps ∷ xs) = let rest = by-kind xs in omega arith
-by-kind (face ps ∷ xs) = let rest = by-kind xs in omega arith
-by-kind (centre c ∷ xs) = let rest = by-kind xs in omega arith
+by-sort : (xs : List Thing) → length xs ≡ length (keep (isSort 0) xs) + length (keep (isSort 1) xs) + length (keep (isSort 2) xs)
+by-sort [] = refl
+by-sort (edge ps ∷ xs) = let rest = by-sort xs in omega arith
+by-sort (face ps ∷ xs) = let rest = by-sort xs in omega arith
+by-sort (centre c ∷ xs) = let rest = by-sort xs in omega arith
 
--- what the first c cells have of one kind
-kept : (k c : ℕ) (f : ℕ → List Thing) → keep (isKind k) (different same (chain c f)) ≡ different same (chain c (λ (d : ℕ). keep (isKind k) (f d)))
+-- what the first c cells have of one sort
+kept : (k c : ℕ) (f : ℕ → List Thing) → keep (isSort k) (different same (chain c f)) ≡ different same (chain c (λ (d : ℕ). keep (isSort k) (f d)))
 kept k c f =
-    keep-meet same (isKind k) (λ x y h. ap (λ (j : ℕ). eqb j k) (same-kind x y h)) [] (chain c f)
-    ∙ ap (different same) (keep-chain (isKind k) c f)
+    keep-meet same (isSort k) (λ x y h. ap (λ (j : ℕ). eqb j k) (same-sort x y h)) [] (chain c f)
+    ∙ ap (different same) (keep-chain (isSort k) c f)
 
 -- the centres of the first c cells
 abbrev centres : ℕ → List Thing
@@ -137,7 +137,7 @@ module _ (n : ℕ) (cells : List ℕ) where
   unfolding given
   counted =
       let c = cellCount cells in
-      by-kind (different same (things cells)) ∙ rw (kept 0 c (thingsOf cells), kept 1 c (thingsOf cells), kept 2 c (thingsOf cells), all-centres c)
+      by-sort (different same (things cells)) ∙ rw (kept 0 c (thingsOf cells), kept 1 c (thingsOf cells), kept 2 c (thingsOf cells), all-centres c)
 
 pub numbered-once : NumberedOnce
 numbered-once n cells =

@@ -7,7 +7,7 @@ use borrow.Author.Tests.{eq-eqb, eqb-true}
 use lib.Dec.{eqb}
 use Rattle.numbers.proofs.All.{left-true, right-true}
 use Rattle.numbers.proofs.Cases.{cases, never, is-false, eqb-sym}
-use Rattle.numbering.specs.FirstMet.{among, Sameness}
+use Rattle.numbers.specs.FirstMet.{among, Sameness}
 use Rattle.numbering.specs.Refinement.{Thing, edge, face, centre, within, sameNodes, same, SameThings}
 
 both : (a b : Bool) → a ≡ true → b ≡ true → (a && b) ≡ true

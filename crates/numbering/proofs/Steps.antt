@@ -12,9 +12,9 @@ use Rattle.numbers.specs.Rule.{tabulate}
 use Rattle.numbers.proofs.Cases.{never, is-false}
 use Rattle.numbers.proofs.Prefix.{tabulate-past}
 use Rattle.numbers.proofs.Stored.{tabulate-more}
-use Rattle.numbering.specs.FirstMet.{among, meet, different, placeOf}
+use Rattle.numbers.specs.FirstMet.{among, meet, different, placeOf}
 use Rattle.numbering.specs.Refinement.{Thing, same, chain, things, given, number}
-use Rattle.numbering.proofs.FirstMet.{among-append, among-meet, meet-append, meet-old, meet-new, first-met, place-alike}
+use Rattle.numbers.proofs.FirstMet.{among-append, among-meet, meet-append, meet-old, meet-new, first-met, place-alike}
 use Rattle.numbering.proofs.Same.{same-things}
 
 pub chain-past : {A : Type 0} (c n : ℕ) (f : ℕ → List A) → c < n → (rest : List A) × (chain n f ≡ chain c f ++ (f c ++ rest))

@@ -1,4 +1,2 @@
-pub mod FirstMet
 pub mod Interface
-pub mod Keys
 pub mod Refinement

@@ -11,7 +11,7 @@ use Rattle.cell.specs.Edges.{end}
 use Rattle.faults.specs.Faults.{node, Sound}
 use Rattle.hex.specs.Cube.{edges, ring}
 use Rattle.hex_children.specs.Children.{children}
-use Rattle.numbering.specs.FirstMet.{among, different, placeOf, Sameness}
+use Rattle.numbers.specs.FirstMet.{among, different, placeOf, Sameness}
 
 -- what gets a number: an edge by its ends, a face by its nodes, and the centre of the cell at a place
 pub data Thing : Type 0 where
@@ -118,9 +118,9 @@ pub record OwnDiffer : Type 0 where
 abbrev pub IsMet : List ℕ → Thing → Type 0
 IsMet cells x = T (among same (things cells) x)
 
--- how many different ones of a kind the cells have
+-- how many different ones the cells have, of the parts of each
 abbrev pub countOf : (List ℕ → ℕ → List Thing) → List ℕ → ℕ
-countOf kind cells = length (different same (chain (cellCount cells) (kind cells)))
+countOf parts cells = length (different same (chain (cellCount cells) (parts cells)))
 
 -- What a user may count on, for every n and every list of cells.
 pub record Numbered (n : ℕ) (cells : List ℕ) : Type 0 where

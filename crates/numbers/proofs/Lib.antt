@@ -2,6 +2,7 @@ pub mod All
 pub mod Bits
 pub mod Cases
 pub mod Fill
+pub mod FirstMet
 pub mod Fold
 pub mod Largest
 pub mod Little

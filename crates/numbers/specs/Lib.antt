@@ -1,4 +1,5 @@
 pub mod Arithmetic
 pub mod Bits
+pub mod FirstMet
 pub mod Little
 pub mod Rule

@@ -1,70 +1,95 @@
--- One cell more: what the code holds is what the numbering says. Assumes nothing.
-use Prim.Native.Nat.{ℕ, _+_, _*_, _/_, _%_, _≤_, _<_}
-use native.Mathlib.Nat.{add-zero}
+-- One cell more: what the lists hold is what the numbering says, and so the children written from them are the numbering's. Assumes nothing.
+use Prim.Native.Nat.{ℕ, zero, suc, _+_, _*_, _/_, _%_, _≤_, _<_}
 use native.Mathlib.Omega.{arith}
 use mathlib.Core.Path.{_≡_, refl, sym, ap, _∙_}
 use mathlib.Core.List.{List, [], _++_, map, append-nil}
-use lib.ListN.{getD}
+use lib.ListN.{length, getD, set}
 use Rattle.numbers.specs.Rule.{tabulate}
 use Rattle.numbers.proofs.Prefix.{tabulate-where}
+use Rattle.numbers.proofs.Slots.{row-next, row-within, slot-row, slot-place}
 use Rattle.faults.specs.Faults.{node, Sound}
 use Rattle.hex_children.specs.Children.{children}
-use Rattle.numbering.specs.FirstMet.{meet}
-use Rattle.numbering.specs.Refinement.{Thing, centre, cellCount, edgeOf, faceOf, edgesOf, facesOf, chain, thingsTo, number, childNumbers}
-use Rattle.numbering.specs.Keys.{edgeKey, faceKey}
+use Rattle.numbering.specs.Refinement.{Thing, cellCount, edgeOf, faceOf, edgesOf, facesOf, chain, thingsTo, number, childNumbers}
 use Rattle.numbering.proofs.Steps.{nextAfter}
-use Rattle.refine.specs.Search.{Agrees, Numbers, row, childrenOf}
+use Rattle.keys.specs.Keys.{edgeKey, faceKey}
+use Rattle.refine.specs.Search.{newFrom, numbered, row, childrenOf, Agrees, edgeNumber, faceNumber, centreNumber, Standing}
 use Rattle.refine.proofs.Output.{same-children}
-use Rattle.refine.proofs.Rules.{edgeNumber, faceNumber, edge-rule, face-rule, centre-rule}
-use Rattle.numbers.proofs.Slots.{row-next, slot-row, slot-place}
+use Rattle.refine.proofs.Rules.{edge-rule, face-rule, centre-rule}
+use Rattle.refine.proofs.Search.{agrees-more, goes-on}
 
--- before cell c the lists hold the numbers of the edges and faces of the cells passed, and the next number is the one after what they have
-pub record Standing (n : ℕ) (cells edges faces : List ℕ) (c next : ℕ) : Type 0 where
-  pub of-edges : Agrees edges (12 * c) (edgeNumber n cells)
-  pub of-faces : Agrees faces (6 * c) (faceNumber n cells)
-  pub of-next : next ≡ nextAfter n (thingsTo cells c)
+pub stands-first : (n : ℕ) (cells edges faces centers : List ℕ) → Standing n cells edges faces centers 0
+stands-first n cells edges faces centers =
+    record {
+      ofEdges = λ j below. absurd (omega arith);
+      ofFaces = λ j below. absurd (omega arith);
+      ofCentres = λ j below. absurd (omega arith);
+    }
 
-pub stands-first : (n : ℕ) (cells edges faces : List ℕ) → Standing n cells edges faces 0 n
-unfolding chain meet
-stands-first n cells edges faces =
-    record { of-edges = λ j below. absurd (omega arith); of-faces = λ j below. absurd (omega arith); of-next = sym (add-zero n) }
+-- with the edges of cell c, and with its faces, and the next number behind them
+pub record Edged (n : ℕ) (cells : List ℕ) (c : ℕ) (edges : List ℕ) (next : ℕ) : Type 0 where
+  pub agree : Agrees edges (12 * c + 12) (edgeNumber n cells)
+  pub next-is : next ≡ nextAfter n (thingsTo cells c ++ edgesOf cells c)
 
--- the numbers of one cell
-row-is : (w c : ℕ) (numbers : List ℕ) (f : ℕ → ℕ → ℕ) → Agrees numbers (w * c + w) (λ (j : ℕ). f (j / w) (j % w)) → row w numbers c ≡ tabulate w (f c)
-row-is w c numbers f h =
-    tabulate-where w (λ (k : ℕ). getD numbers (w * c + k) 0) (f c) (λ k l. h (w * c + k) (omega arith) ∙ rw (slot-row w c k l, slot-place w c k l))
+pub record Faced (n : ℕ) (cells : List ℕ) (c : ℕ) (faces : List ℕ) (next : ℕ) : Type 0 where
+  pub agree : Agrees faces (6 * c + 6) (faceNumber n cells)
+  pub next-is : next ≡ nextAfter n ((thingsTo cells c ++ edgesOf cells c) ++ facesOf cells c)
 
 module _ (n : ℕ) (few : n ≤ 1024) (cells : List ℕ) (sound : (d : ℕ) → d < cellCount cells → Sound n 8 (node 8 cells d)) (c : ℕ) (below : c < cellCount cells)
-    (edge-keys : List ℕ) (edge-keyed : Agrees edge-keys (12 * cellCount cells) (edgeKey cells))
-    (face-keys : List ℕ) (face-keyed : Agrees face-keys (6 * cellCount cells) (faceKey cells))
-    (edges edges′ faces faces′ : List ℕ) (next middle center : ℕ) (held : Standing n cells edges faces c next)
-    (edges-numbered : Numbers edge-keys edges edges′ (12 * c) 12 next middle) (faces-numbered : Numbers face-keys faces faces′ (6 * c) 6 middle center) where
-  by-edges : Agrees edges′ (12 * c + 12) (edgeNumber n cells) × (middle ≡ nextAfter n (thingsTo cells c ++ edgesOf cells c))
-  by-edges =
+    (edges faces centers : List ℕ) (next : ℕ) (held : Standing n cells edges faces centers c) (of-next : next ≡ nextAfter n (thingsTo cells c)) where
+  pub by-edges : (keys edges′ : List ℕ) (middle : ℕ) → Agrees keys (12 * cellCount cells) (edgeKey cells)
+      → 12 * c + 12 ≤ length keys → 12 * c + 12 ≤ length edges
+      → edges′ ≡ numbered keys edges (12 * c) next 12 → middle ≡ next + newFrom keys (12 * c) 12 → Edged n cells c edges′ middle
+  by-edges keys edges′ middle keyed inside room is after =
       let nil = append-nil (thingsTo cells c) in
-      let first = held .of-next ∙ sym (ap (nextAfter n) (append-nil (thingsTo cells c ++ []) ∙ nil)) in
-      let done = edges-numbered _ _ (edge-rule n few cells sound c below edge-keys edge-keyed) (held .of-edges) first in
-      (done .0, done .1 ∙ ap (λ (l : List Thing). nextAfter n (l ++ edgesOf cells c)) nil)
+      let first = of-next ∙ sym (ap (nextAfter n) (append-nil (thingsTo cells c ++ []) ∙ nil)) in
+      let rule = edge-rule n few cells sound c below keys keyed in
+      let done = goes-on keys edges (12 * c) 12 next (edgeNumber n cells) _ rule inside (held .ofEdges) first edges′ middle room is after in
+      record { agree = done .0; next-is = done .1 ∙ ap (λ (l : List Thing). nextAfter n (l ++ edgesOf cells c)) nil }
 
-  by-faces : Agrees faces′ (6 * c + 6) (faceNumber n cells)
-      × (center ≡ nextAfter n ((thingsTo cells c ++ edgesOf cells c) ++ facesOf cells c))
-  by-faces =
-      let first = by-edges .1 ∙ sym (ap (nextAfter n) (append-nil (thingsTo cells c ++ edgesOf cells c))) in
-      faces-numbered _ _ (face-rule n few cells sound c below face-keys face-keyed) (held .of-faces) first
+  pub by-faces : (keys edges′ faces′ : List ℕ) (middle center : ℕ) → Agrees keys (6 * cellCount cells) (faceKey cells)
+      → 6 * c + 6 ≤ length keys → 6 * c + 6 ≤ length faces
+      → Edged n cells c edges′ middle
+      → faces′ ≡ numbered keys faces (6 * c) middle 6 → center ≡ middle + newFrom keys (6 * c) 6 → Faced n cells c faces′ center
+  by-faces keys edges′ faces′ middle center keyed inside room edged is after =
+      let first = edged .next-is ∙ sym (ap (nextAfter n) (append-nil (thingsTo cells c ++ edgesOf cells c))) in
+      let rule = face-rule n few cells sound c below keys keyed in
+      let done = goes-on keys faces (6 * c) 6 middle (faceNumber n cells) _ rule inside (held .ofFaces) first faces′ center room is after in
+      record { agree = done .0; next-is = done .1 }
 
-  pub one-more : (part : List ℕ) → part ≡ childrenOf cells edges′ faces′ c center →
-      Standing n cells edges′ faces′ (c + 1) (center + 1) × (part ≡ childNumbers n cells c)
-  unfolding childrenOf
-  one-more part written =
+  pub one-more : (edges′ faces′ : List ℕ) (middle center : ℕ) → c < length centers → Edged n cells c edges′ middle → Faced n cells c faces′ center
+      → Standing n cells edges′ faces′ (set centers c center) (c + 1) × (center + 1 ≡ nextAfter n (thingsTo cells (c + 1)))
+  one-more edges′ faces′ middle center room edged faced =
       let middle-of = centre-rule n few cells sound c below in (
         record {
-          of-edges = rw (row-next 12 c) (by-edges .0);
-          of-faces = rw (row-next 6 c) (by-faces .0);
-          of-next = ap (λ (k : ℕ). k + 1) (by-faces .1) ∙ sym (middle-of .1);
+          ofEdges = rw (row-next 12 c) (edged .agree);
+          ofFaces = rw (row-next 6 c) (faced .agree);
+          ofCentres = agrees-more centers c (c + 1) center (centreNumber n cells) refl room (faced .next-is ∙ sym (middle-of .0)) (held .ofCentres);
         },
-        written
-            ∙ same-children {corner = row 8 cells c} {center = center} refl
-            (row-is 12 c edges′ (λ (d e : ℕ). number n cells (edgeOf cells d e)) (by-edges .0))
-            (row-is 6 c faces′ (λ (d f : ℕ). number n cells (faceOf cells d f)) (by-faces .0))
-            ∙ ap (children (row 8 cells c) (map (number n cells) (edgesOf cells c)) (map (number n cells) (facesOf cells c))) (by-faces .1 ∙ sym (middle-of .0)),
+        ap (λ (k : ℕ). k + 1) (faced .next-is) ∙ sym (middle-of .1),
       )
+
+-- the numbers of one cell in a list that agrees with a rule up to m cells
+row-is : (w c m : ℕ) (numbers : List ℕ) (f : ℕ → ℕ → ℕ) → c < m → Agrees numbers (w * m) (λ (j : ℕ). f (j / w) (j % w)) → row w numbers c ≡ tabulate w (f c)
+row-is w c m numbers f below h =
+    let inside = row-within w c m below in
+    tabulate-where w (λ (k : ℕ). getD numbers (w * c + k) 0) (f c) (λ k l. h (w * c + k) (omega arith) ∙ rw (slot-row w c k l, slot-place w c k l))
+
+pub cell-children : (n : ℕ) (cells edges faces centers : List ℕ) (m c : ℕ) → Standing n cells edges faces centers m → c < m
+    → childrenOf cells edges faces centers c ≡ childNumbers n cells c
+unfolding childrenOf
+cell-children n cells edges faces centers m c held below =
+    same-children {corner = row 8 cells c} {center = getD centers c 0} refl
+    (row-is 12 c m edges (λ (d e : ℕ). number n cells (edgeOf cells d e)) below (held .ofEdges))
+    (row-is 6 c m faces (λ (d f : ℕ). number n cells (faceOf cells d f)) below (held .ofFaces))
+    ∙ ap (children (row 8 cells c) (map (number n cells) (edgesOf cells c)) (map (number n cells) (facesOf cells c))) (held .ofCentres c below)
+
+-- of all cells
+chain-alike : {A : Type 0} (m : ℕ) (f g : ℕ → List A) → ((c : ℕ) → c < m → f c ≡ g c) → chain m f ≡ chain m g
+unfolding chain
+chain-alike zero f g h = refl
+chain-alike (suc m) f g h = rw (chain-alike m f g (λ c below. h c (omega arith)), h m (omega arith))
+
+pub all-children : (n : ℕ) (cells edges faces centers : List ℕ) (m : ℕ) → Standing n cells edges faces centers m
+    → chain m (childrenOf cells edges faces centers) ≡ chain m (childNumbers n cells)
+all-children n cells edges faces centers m held =
+    chain-alike m (childrenOf cells edges faces centers) (childNumbers n cells) (λ c below. cell-children n cells edges faces centers m c held below)

@@ -10,6 +10,7 @@ use lib.ListN.{length, drop, length-append}
 use lib.Seq.{take-at, drop-at, drop-drop}
 use Rattle.hex_children.specs.Children.{children}
 use Rattle.numbering.specs.Refinement.{chain}
+use Rattle.refine.specs.Search.{childrenOf}
 
 -- children of the same numbers
 pub same-children : {corner corner′ edge edge′ quad quad′ : List ℕ} {center : ℕ} → corner ≡ corner′ → edge ≡ edge′ → quad ≡ quad′ →
@@ -18,6 +19,10 @@ same-children {corner′ = corner′} {edge = edge} {edge′ = edge′} {quad = 
     ap (λ (x : List ℕ). children x edge quad center) c
     ∙ ap (λ (x : List ℕ). children corner′ x quad center) e
     ∙ ap (λ (x : List ℕ). children corner′ edge′ x center) q
+
+pub children-long : (cells edges faces centers : List ℕ) (c : ℕ) → length (childrenOf cells edges faces centers c) ≡ 64
+unfolding childrenOf
+children-long cells edges faces centers c = refl
 
 pub chain-length : {A : Type 0} (w : ℕ) (f : ℕ → List A) → ((d : ℕ) → length (f d) ≡ w) → (c : ℕ) → length (chain c f) ≡ w * c
 unfolding chain
@@ -28,7 +33,8 @@ pub nothing-yet : (f : ℕ → List ℕ) (o : List ℕ) → o ≡ chain 0 f ++ d
 unfolding chain
 nothing-yet f o = refl
 
-pub part-more : (f : ℕ → List ℕ) → ((d : ℕ) → length (f d) ≡ 64) → (c k : ℕ) (part out o : List ℕ) → k ≡ 64 → part ≡ f c → out ≡ chain c f ++ drop (64 * c) o →
+pub part-more : (f : ℕ → List ℕ) → ((d : ℕ) → length (f d) ≡ 64) → (c k : ℕ) (part out o : List ℕ) → k ≡ 64 → part ≡ f c
+    → out ≡ chain c f ++ drop (64 * c) o →
     putMid (64 * c) k out part ≡ chain (c + 1) f ++ drop (64 * (c + 1)) o
 unfolding chain
 part-more f long c k part out o hk hp ho =

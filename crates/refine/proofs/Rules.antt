@@ -14,20 +14,27 @@ use lib.ListN.{length, getD}
 use Rattle.numbers.specs.Rule.{tabulate}
 use Rattle.numbers.proofs.Cases.{is-false}
 use Rattle.faults.specs.Faults.{node, Sound}
-use Rattle.numbering.specs.FirstMet.{among}
+use Rattle.numbers.specs.FirstMet.{among}
 use Rattle.numbering.specs.Refinement.{Thing, edge, face, centre, sameNodes, same, cellCount, edgeNodes, faceNodes}
 use Rattle.numbering.specs.Refinement.{edgeOf, faceOf, edgesOf, facesOf, thingsOf, chain, thingsTo, things, number}
-use Rattle.numbering.specs.Keys.{Nodes, key, edgeKey, faceKey}
-use Rattle.numbering.proofs.FirstMet.{among-append}
+use Rattle.keys.specs.Keys.{Nodes, key, edgeKey, faceKey}
+use Rattle.numbers.proofs.FirstMet.{among-append}
 use Rattle.numbering.proofs.Same.{same-things}
-use Rattle.numbering.proofs.Keys.{keys-tell}
+use Rattle.keys.proofs.Keys.{key-nodes, keys-tell}
 use Rattle.numbering.proofs.Cells.{edge-nodes, face-nodes, own-parts-differ}
 use Rattle.numbering.proofs.Steps.{chain-past, chain-has, chain-found, tabulate-has, tabulate-found, nextAfter, known, new, keeps}
-use Rattle.refine.specs.Search.{Rule, Agrees}
+use Rattle.refine.specs.Search.{Agrees, edgeNumber, faceNumber}
+use Rattle.refine.proofs.Places.{Missing}
 use Rattle.numbers.proofs.Slots.{slot-row, slot-place, row-of, row-within}
 
+-- A numbering of keys, `value j` of key j, keeps to the rule at the w keys from m on, which are one cell's: a key that an earlier cell has keeps its number,
+-- and another gets the next, which is `before i` at key m + i.
+pub record Rule (keys : List ℕ) (m w : ℕ) (value before : ℕ → ℕ) : Type 0 where
+  pub old : (i j : ℕ) → i < w → j < m → getD keys j 0 ≡ getD keys (m + i) 0 → (value (m + i) ≡ value j) × (before (i + 1) ≡ before i)
+  pub new : (i : ℕ) → i < w → Missing keys m (getD keys (m + i) 0) → (value (m + i) ≡ before i) × (before (i + 1) ≡ before i + 1)
+
 -- What edges and faces have in common: w of them in each cell, each made of its nodes.
-pub record Kind (cells : List ℕ) (w : ℕ) (make : List ℕ → Thing) (nodes : ℕ → ℕ → List ℕ) : Type 0 where
+pub record Family (cells : List ℕ) (w : ℕ) (make : List ℕ → Thing) (nodes : ℕ → ℕ → List ℕ) : Type 0 where
   pub some : 0 < w
   pub alike : (ps qs : List ℕ) → same (make ps) (make qs) ≡ sameNodes ps qs
   pub only : (d : ℕ) (ps : List ℕ) → among same (thingsOf cells d) (make ps) ≡ among same (tabulate w (λ (i : ℕ). make (nodes d i))) (make ps)
@@ -41,8 +48,8 @@ Keyed keys cells w nodes = Agrees keys (w * cellCount cells) (λ (j : ℕ). key 
 regroup : (a f own row later rest : List Thing) → f ≡ own ++ (row ++ later) → a ++ (f ++ rest) ≡ (a ++ own) ++ (row ++ (later ++ rest))
 regroup a f own row later rest e = rw (e, append-assoc own (row ++ later) rest, append-assoc row later rest, append-assoc a own (row ++ (later ++ rest)))
 
--- One kind in cell c: `own` is what the cell has before them, of the other kinds, and `later` what it has behind them.
-module _ (n : ℕ) (cells : List ℕ) (w : ℕ) (make : List ℕ → Thing) (nodes : ℕ → ℕ → List ℕ) (kind : Kind cells w make nodes)
+-- One family in cell c: `own` is what the cell has before it, of the other one, and `later` what it has behind it.
+module _ (n : ℕ) (cells : List ℕ) (w : ℕ) (make : List ℕ → Thing) (nodes : ℕ → ℕ → List ℕ) (family : Family cells w make nodes)
     (keys : List ℕ) (keyed : Keyed keys cells w nodes) (c : ℕ) (below : c < cellCount cells) (own later : List Thing)
     (parts : thingsOf cells c ≡ own ++ (tabulate w (λ (i : ℕ). make (nodes c i)) ++ later))
     (others : (ps : List ℕ) → among same own (make ps) ≡ false) where
@@ -61,7 +68,7 @@ module _ (n : ℕ) (cells : List ℕ) (w : ℕ) (make : List ℕ → Thing) (nod
       (later ++ past .0, past .1 ∙ regroup (thingsTo cells c) (thingsOf cells c) own (tabulate w row) later (past .0) parts)
 
   differ : (i k : ℕ) → i < k → k < w → same (row i) (row k) ≡ false
-  differ i k less h = kind .differ c i k below less h
+  differ i k less h = family .differ c i k below less h
 
   -- the key and the number of a slot
   key-at : (d i : ℕ) → d < cellCount cells → i < w → getD keys (w * d + i) 0 ≡ key (nodes d i)
@@ -76,7 +83,7 @@ module _ (n : ℕ) (cells : List ℕ) (w : ℕ) (make : List ℕ → Thing) (nod
   has : (i d k : ℕ) → d < c → k < w → same (make (nodes d k)) (row i) ≡ true → among same earlier (row i) ≡ true
   has i d k h l t =
       among-append same (thingsTo cells c) own (row i)
-      ∙ rw (chain-has same (row i) c (thingsOf cells) d h (kind .only d (nodes c i) ∙ tabulate-has same (row i) w (λ (i : ℕ). make (nodes d i)) k l t))
+      ∙ rw (chain-has same (row i) c (thingsOf cells) d h (family .only d (nodes c i) ∙ tabulate-has same (row i) w (λ (i : ℕ). make (nodes d i)) k l t))
 
   found : (i : ℕ) → among same earlier (row i) ≡ true → (d : ℕ) × (k : ℕ) × (d < c) × (k < w) × (same (make (nodes d k)) (row i) ≡ true)
   found i t =
@@ -86,20 +93,20 @@ module _ (n : ℕ) (cells : List ℕ) (w : ℕ) (make : List ℕ → Thing) (nod
       ∙ sym (among-append same (thingsTo cells c) own (row i))
       ∙ t in
       let cell = chain-found same (row i) c (thingsOf cells) chained in
-      let place = tabulate-found same (row i) w (λ (k : ℕ). make (nodes (cell .0) k)) (sym (kind .only (cell .0) (nodes c i)) ∙ cell .2) in
+      let place = tabulate-found same (row i) w (λ (k : ℕ). make (nodes (cell .0) k)) (sym (family .only (cell .0) (nodes c i)) ∙ cell .2) in
       (cell .0, place .0, cell .1, place .1, place .2)
 
   tell : (i d k : ℕ) → i < w → d < c → k < w → (key (nodes d k) ≡ key (nodes c i)) ↔ (same (make (nodes d k)) (row i) ≡ true)
   tell i d k h l m =
-      let told = keys-tell (nodes d k) (nodes c i) (kind .long d k c i) (kind .good d k (omega arith) m) (kind .good c i below h) in
-      ((λ e. kind .alike (nodes d k) (nodes c i) ∙ told .0 e), (λ t. told .1 (sym (kind .alike (nodes d k) (nodes c i)) ∙ t)))
+      let told = keys-tell (nodes d k) (nodes c i) (family .long d k c i) (family .good d k (omega arith) m) (family .good c i below h) in
+      ((λ e. family .alike (nodes d k) (nodes c i) ∙ told .0 e), (λ t. told .1 (sym (family .alike (nodes d k) (nodes c i)) ∙ t)))
 
   pub keeps-to : Rule keys (w * c) w value (λ (i : ℕ). nextAfter n (earlier ++ tabulate i row))
   keeps-to =
       record {
         old = λ i j h l e.
-            let d = row-of w c j (kind .some) l in
-            let k = mod-lt j (kind .some) in
+            let d = row-of w c j (family .some) l in
+            let k = mod-lt j (family .some) in
             let inside = row-within w c (cellCount cells) below in
             let t = tell i (j / w) (j % w) h d k .0 (sym (keyed j (omega arith)) ∙ e ∙ key-at c i below h) in (
               value-at i h ∙ keeps n cells (row i) _ (same-things .swap (row i) _ ∙ t),
@@ -122,45 +129,38 @@ in-three : (a e f z rest : List Thing) → a ++ ((e ++ (f ++ z)) ++ rest) ≡ ((
 in-three a e f z rest =
     ap (λ (l : List Thing). a ++ l) (append-assoc e (f ++ z) rest ∙ ap (λ (l : List Thing). e ++ l) (append-assoc f z rest)) ∙ behind a e f (z ++ rest)
 
--- the numbers of the edges, and of the faces, cell after cell
-abbrev pub edgeNumber : ℕ → List ℕ → ℕ → ℕ
-edgeNumber n cells j = number n cells (edgeOf cells (j / 12) (j % 12))
-
-abbrev pub faceNumber : ℕ → List ℕ → ℕ → ℕ
-faceNumber n cells j = number n cells (faceOf cells (j / 6) (j % 6))
-
 -- A mesh of at most 1,024 nodes whose cells have no fault.
 module _ (n : ℕ) (few : n ≤ 1024) (cells : List ℕ) (sound : (d : ℕ) → d < cellCount cells → Sound n 8 (node 8 cells d)) where
-  edge-kind : Kind cells 12 edge (edgeNodes cells)
-  edge-kind =
+  edge-family : Family cells 12 edge (edgeNodes cells)
+  edge-family =
       record {
         some = omega arith;
         alike = λ ps qs. refl;
         only = λ d ps. refl;
         long = λ d i e k. refl;
-        good = λ d i h. edge-nodes n cells d (sound d h) few i;
+        good = λ d i h l. key-nodes n (edgeNodes cells d i) few (edge-nodes n cells d (sound d h) i l);
         differ = λ d i k h. own-parts-differ .edgesDiffer n cells d (sound d h) i k;
       }
 
-  face-kind : Kind cells 6 face (faceNodes cells)
-  face-kind =
+  face-family : Family cells 6 face (faceNodes cells)
+  face-family =
       record {
         some = omega arith;
         alike = λ ps qs. refl;
         only = λ d ps. refl;
         long = λ d i e k. refl;
-        good = λ d i h. face-nodes n cells d (sound d h) few i;
+        good = λ d i h l. key-nodes n (faceNodes cells d i) few (face-nodes n cells d (sound d h) i l);
         differ = λ d i k h. own-parts-differ .facesDiffer n cells d (sound d h) i k;
       }
 
   module _ (c : ℕ) (below : c < cellCount cells) where
     pub edge-rule : (keys : List ℕ) → Agrees keys (12 * cellCount cells) (edgeKey cells) →
         Rule keys (12 * c) 12 (edgeNumber n cells) (λ (i : ℕ). nextAfter n ((thingsTo cells c ++ []) ++ tabulate i (edgeOf cells c)))
-    edge-rule keys keyed = keeps-to n cells 12 edge (edgeNodes cells) edge-kind keys keyed c below [] (facesOf cells c ++ (centre c ∷ [])) refl (λ ps. refl)
+    edge-rule keys keyed = keeps-to n cells 12 edge (edgeNodes cells) edge-family keys keyed c below [] (facesOf cells c ++ (centre c ∷ [])) refl (λ ps. refl)
 
     pub face-rule : (keys : List ℕ) → Agrees keys (6 * cellCount cells) (faceKey cells) →
         Rule keys (6 * c) 6 (faceNumber n cells) (λ (i : ℕ). nextAfter n ((thingsTo cells c ++ edgesOf cells c) ++ tabulate i (faceOf cells c)))
-    face-rule keys keyed = keeps-to n cells 6 face (faceNodes cells) face-kind keys keyed c below (edgesOf cells c) (centre c ∷ []) refl (λ ps. refl)
+    face-rule keys keyed = keeps-to n cells 6 face (faceNodes cells) face-family keys keyed c below (edgesOf cells c) (centre c ∷ []) refl (λ ps. refl)
 
     -- "every centre is new": no earlier cell has this one's
     not-met : among same ((thingsTo cells c ++ edgesOf cells c) ++ facesOf cells c) (centre c) ≡ false

@@ -1,41 +1,69 @@
 -- What the search, and the numbering of one cell's edges or faces, owe whatever the keys stand for. No public promise cites these. Definitions only.
-use Prim.Native.Nat.{ℕ, _+_, _*_, _<_}
+use Prim.Native.Nat.{ℕ, _+_, _*_, _/_, _%_, _<_}
 use mathlib.Core.Path.{_≡_}
-use mathlib.Core.List.{List}
-use lib.ListN.{getD}
-use Rattle.numbers.specs.Rule.{tabulate}
+use mathlib.Core.Bool.{Bool, cond, not}
+use mathlib.Core.List.{List, _++_}
+use lib.Dec.{eqb, ltb}
+use lib.ListN.{getD, take, drop}
+use Rattle.numbers.specs.Rule.{tabulate, count}
+use Rattle.numbers.specs.FirstMet.{placeOf}
 use Rattle.hex_children.specs.Children.{children}
+use Rattle.numbering.specs.Refinement.{centre, cellCount, edgeOf, faceOf, chain, number}
 use Rattle.refine.specs.declared.Found.{Found}
 use Rattle.refine.specs.declared.Found.the-variants.{At, Nothing}
 
--- k is none of the first m keys
-abbrev pub Missing : List ℕ → ℕ → ℕ → Type 0
-Missing keys m k = (j : ℕ) → j < m → getD keys j 0 ≡ k → ⊥
+-- one of the first m keys is k
+abbrev pub isOld : List ℕ → ℕ → ℕ → Bool
+isOld keys m k = ltb (placeOf eqb keys k) m
 
--- the number beside the first of the first m keys that is k, or nothing where none is
-abbrev pub Finds : List ℕ → List ℕ → ℕ → ℕ → Found → Type 0
-Finds keys numbers m k (At x) = (j : ℕ) × (j < m) × Missing keys j k × (getD keys j 0 ≡ k) × (getD numbers j 0 ≡ x)
-Finds keys numbers m k Nothing = Missing keys m k
+-- the number beside the first key that is k
+abbrev pub numberBeside : List ℕ → List ℕ → ℕ → ℕ
+numberBeside keys numbers k = getD numbers (placeOf eqb keys k) 0
 
--- A numbering of keys, `value j` of key j, keeps to the rule at the w keys from m on, which are one cell's: a key that an earlier cell has keeps its number,
--- and another gets the next, which is `before i` at key m + i.
-pub record Rule (keys : List ℕ) (m w : ℕ) (value before : ℕ → ℕ) : Type 0 where
-  pub old : (i j : ℕ) → i < w → j < m → getD keys j 0 ≡ getD keys (m + i) 0 → (value (m + i) ≡ value j) × (before (i + 1) ≡ before i)
-  pub new : (i : ℕ) → i < w → Missing keys m (getD keys (m + i) 0) → (value (m + i) ≡ before i) × (before (i + 1) ≡ before i + 1)
+-- "The search over earlier cells stops at the first match": what it finds among the first m keys
+abbrev pub foundIn : List ℕ → List ℕ → ℕ → ℕ → Found
+foundIn keys numbers m k = cond (isOld keys m k) (At (numberBeside keys numbers k)) Nothing
 
--- the first m numbers are those of the numbering
-abbrev pub Agrees : List ℕ → ℕ → (ℕ → ℕ) → Type 0
-Agrees numbers m value = (j : ℕ) → j < m → getD numbers j 0 ≡ value j
+-- how many of the i keys from m on are none of the first m
+abbrev pub newFrom : List ℕ → ℕ → ℕ → ℕ
+newFrom keys m i = count i (λ (h : ℕ). not (isOld keys m (getD keys (m + h) 0)))
 
--- Numbering the w keys from m on owes this: whatever numbering keeps to the rule, the numbers go on with it, and the next number after them is its next.
-abbrev pub Numbers : List ℕ → List ℕ → List ℕ → ℕ → ℕ → ℕ → ℕ → Type 0
-Numbers keys old new m w first after =
-    (value before : ℕ → ℕ) → Rule keys m w value before → Agrees old m value → first ≡ before 0 → Agrees new (m + w) value × (after ≡ before w)
+-- The first m keys have their numbers, and `first` is the next: an old key keeps its number, and a new one gets `first` and one more for each new key before it.
+abbrev pub numberOf : List ℕ → List ℕ → ℕ → ℕ → ℕ → ℕ
+numberOf keys numbers m first i =
+    let k = getD keys (m + i) 0 in cond (isOld keys m k) (numberBeside keys numbers k) (first + newFrom keys m i)
+
+-- the list of numbers with those of the w keys from m on
+unfoldable pub numbered : List ℕ → List ℕ → ℕ → ℕ → ℕ → List ℕ
+numbered keys numbers m first w = take m numbers ++ (tabulate w (numberOf keys numbers m first) ++ drop (m + w) numbers)
 
 -- the w numbers of a cell in a list of w a cell
 abbrev pub row : ℕ → List ℕ → ℕ → List ℕ
 row w l c = tabulate w (λ (k : ℕ). getD l (w * c + k) 0)
 
--- the children of a cell whose nodes, and the numbers of whose edges and faces, stand in such lists
-unfoldable pub childrenOf : List ℕ → List ℕ → List ℕ → ℕ → ℕ → List ℕ
-childrenOf cells edges faces c center = children (row 8 cells c) (row 12 edges c) (row 6 faces c) center
+-- the children of a cell whose nodes, and the numbers of whose edges, faces and centre, stand in such lists
+unfoldable pub childrenOf : List ℕ → List ℕ → List ℕ → List ℕ → ℕ → List ℕ
+childrenOf cells edges faces centers c = children (row 8 cells c) (row 12 edges c) (row 6 faces c) (getD centers c 0)
+
+abbrev pub childrenBy : List ℕ → List ℕ → List ℕ → List ℕ → List ℕ
+childrenBy cells edges faces centers = chain (cellCount cells) (childrenOf cells edges faces centers)
+
+-- the first m numbers of a list are those of a rule
+abbrev pub Agrees : List ℕ → ℕ → (ℕ → ℕ) → Type 0
+Agrees numbers m value = (j : ℕ) → j < m → getD numbers j 0 ≡ value j
+
+-- the numbers of the edges, of the faces and of the centres, cell after cell
+abbrev pub edgeNumber : ℕ → List ℕ → ℕ → ℕ
+edgeNumber n cells j = number n cells (edgeOf cells (j / 12) (j % 12))
+
+abbrev pub faceNumber : ℕ → List ℕ → ℕ → ℕ
+faceNumber n cells j = number n cells (faceOf cells (j / 6) (j % 6))
+
+abbrev pub centreNumber : ℕ → List ℕ → ℕ → ℕ
+centreNumber n cells c = number n cells (centre c)
+
+-- the lists hold the numbers of the first c cells
+pub record Standing (n : ℕ) (cells edges faces centers : List ℕ) (c : ℕ) : Type 0 where
+  pub ofEdges : Agrees edges (12 * c) (edgeNumber n cells)
+  pub ofFaces : Agrees faces (6 * c) (faceNumber n cells)
+  pub ofCentres : Agrees centers c (centreNumber n cells)

@@ -8,7 +8,7 @@ ghost use Rattle.answer.specs.Answer.{answered, left};
 ghost use Rattle.faults.specs.Faults.{firstFault};
 ghost use Rattle.numbering.specs.Refinement.{cellCount, next};
 ghost use Rattle.refine.specs.Refine.{refined, allChildren, childrenIn, told};
-ghost use Rattle.refine.specs.Search.{Finds, Numbers, childrenOf};
+ghost use Rattle.refine.specs.Search.{foundIn, newFrom, numbered, childrenOf, childrenBy, Standing};
 
 // The next free number, or a refusal's number.
 pub enum Refined {
@@ -25,7 +25,7 @@ enum Found {
 // The number of `key`, if one of the edges or faces of the cells before `cell` has that key: each cell has `width` of them.
 fn find(keys: &[u64], numbers: &[u32], width: usize, cell: usize, key: u64) -> Found
     requires { ⌜ (width * cell ≤ length (now keys)) × (width * cell ≤ length (now numbers)) ⌝ }
-    ensures { λ r. ⌜ Finds (now (keys .entry)) (now (numbers .entry)) (width * cell) key r ⌝ }
+    ensures { λ r. ⌜ r ≡ foundIn (now (keys .entry)) (now (numbers .entry)) (width * cell) key ⌝ }
 {
     let mut c = 0usize;
     'search: loop {
@@ -45,7 +45,8 @@ fn find(keys: &[u64], numbers: &[u32], width: usize, cell: usize, key: u64) -> F
 // Numbers the edges, or the faces, of a cell. The answer is the next number.
 fn number(keys: &[u64], numbers: &mut [u32], width: usize, cell: usize, first: u32) -> u32
     requires { ⌜ (width * cell + width ≤ length (now keys)) × (width * cell + width ≤ length (now numbers)) × (first + width < 2 ^ 32) ⌝ }
-    ensures numbered { λ r. ⌜ Numbers (now (keys .entry)) (now (numbers .entry)) (now (numbers .exit)) (width * cell) width first r ⌝ }
+    ensures numbers { λ _. ⌜ now (numbers .exit) ≡ numbered (now (keys .entry)) (now (numbers .entry)) (width * cell) first width ⌝ }
+    ensures next { λ r. ⌜ r ≡ first + newFrom (now (keys .entry)) (width * cell) width ⌝ }
     ensures few { λ r. ⌜ r ≤ first + width ⌝ }
 {
     let mut next = first;
@@ -76,18 +77,46 @@ fn copy_row(list: &[u32], from: usize, row: &mut [u32])
     }
 }
 
+// Numbers the edges, the faces and the centre of each cell, cell after cell. The answer is the next free number.
+fn number_cells(
+    n: u32,
+    cells: &[u32],
+    edges: &mut [u32],
+    faces: &mut [u32],
+    centers: &mut [u32],
+) -> u32
+    requires { ⌜ (n ≤ 1024) × (length (now cells) ≤ 1024) × (firstFault n 8 (now cells) ≡ 0) ⌝ }
+    requires { ⌜ (length (now edges) ≡ 1536) × (length (now faces) ≡ 768) × (length (now centers) ≡ 128) ⌝ }
+    ensures free { λ r. ⌜ r ≡ next n (now (cells .entry)) ⌝ }
+    ensures numbers { λ _. ⌜ Standing n (now (cells .entry)) (now (edges .exit)) (now (faces .exit)) (now (centers .exit)) (cellCount (now (cells .entry))) ⌝ }
+{
+    let edge_keys = keys::edge_keys(cells);
+    let face_keys = keys::face_keys(cells);
+    let mut free = n;
+    let count = cells.len() / 8;
+    let mut cell: usize = 0;
+    while cell < count {
+        free = number(&edge_keys, &mut *edges, 12, cell, free);
+        free = number(&face_keys, &mut *faces, 6, cell, free);
+        centers[cell] = free;
+        free += 1;
+        cell += 1;
+    }
+    free
+}
+
 // Writes one cell's children into the part of the output that is theirs.
 fn write_children(
     part: &mut [u32],
     cells: &[u32],
     edges: &[u32],
     faces: &[u32],
+    centers: &[u32],
     cell: usize,
-    center: u32,
 )
     requires { ⌜ length (now part) ≡ 64 ⌝ }
-    requires { ⌜ (8 * cell + 8 ≤ length (now cells)) × (12 * cell + 12 ≤ length (now edges)) × (6 * cell + 6 ≤ length (now faces)) ⌝ }
-    ensures { λ _. ⌜ now (part .exit) ≡ childrenOf (now (cells .entry)) (now (edges .entry)) (now (faces .entry)) cell center ⌝ }
+    requires { ⌜ (8 * cell + 8 ≤ length (now cells)) × (12 * cell + 12 ≤ length (now edges)) × (6 * cell + 6 ≤ length (now faces)) × (cell < length (now centers)) ⌝ }
+    ensures { λ _. ⌜ now (part .exit) ≡ childrenOf (now (cells .entry)) (now (edges .entry)) (now (faces .entry)) (now (centers .entry)) cell ⌝ }
 {
     let mut corner = [0u32; 8];
     let mut edge = [0u32; 12];
@@ -95,32 +124,38 @@ fn write_children(
     copy_row(cells, 8 * cell, &mut corner);
     copy_row(edges, 12 * cell, &mut edge);
     copy_row(faces, 6 * cell, &mut quad);
-    let numbers = hex_children::subdivide(corner, edge, quad, center);
+    let numbers = hex_children::subdivide(corner, edge, quad, centers[cell]);
     copy_row(&numbers, 0, part);
 }
 
-// Numbers the cells in order and writes their children. The answer is the next free number.
+// Writes the children of each cell into its part of the output.
+fn write_cells(cells: &[u32], edges: &[u32], faces: &[u32], centers: &[u32], out: &mut [u32])
+    requires { ⌜ (length (now cells) ≤ 1024) × (64 * cellCount (now cells) ≤ length (now out)) ⌝ }
+    requires { ⌜ (length (now edges) ≡ 1536) × (length (now faces) ≡ 768) × (length (now centers) ≡ 128) ⌝ }
+    ensures { λ _. ⌜ now (out .exit) ≡
+        left (answered (childrenBy (now (cells .entry)) (now (edges .entry)) (now (faces .entry)) (now (centers .entry)))) (now (out .entry)) ⌝ }
+{
+    let count = cells.len() / 8;
+    let mut cell: usize = 0;
+    while cell < count {
+        let start = 64 * cell;
+        let end = start + 64;
+        write_children(&mut out[start..end], cells, edges, faces, centers, cell);
+        cell += 1;
+    }
+}
+
+// Numbers all cells, and then writes their children. The answer is the next free number.
 fn refine_cells(n: u32, cells: &[u32], out: &mut [u32]) -> u32
     requires { ⌜ (n ≤ 1024) × (length (now cells) ≤ 1024) × (64 * cellCount (now cells) ≤ length (now out)) × (firstFault n 8 (now cells) ≡ 0) ⌝ }
     ensures free { λ r. ⌜ r ≡ next n (now (cells .entry)) ⌝ }
     ensures output { λ _. ⌜ now (out .exit) ≡ left (answered (allChildren n (now (cells .entry)))) (now (out .entry)) ⌝ }
 {
-    let edge_keys = keys::edge_keys(cells);
-    let face_keys = keys::face_keys(cells);
     let mut edges = [0u32; 1536];
     let mut faces = [0u32; 768];
-    let mut free = n;
-    let count = cells.len() / 8;
-    let mut cell: usize = 0;
-    while cell < count {
-        free = number(&edge_keys, &mut edges, 12, cell, free);
-        free = number(&face_keys, &mut faces, 6, cell, free);
-        let start = 64 * cell;
-        let end = start + 64;
-        write_children(&mut out[start..end], cells, &edges, &faces, cell, free);
-        free += 1;
-        cell += 1;
-    }
+    let mut centers = [0u32; 128];
+    let free = number_cells(n, cells, &mut edges, &mut faces, &mut centers);
+    write_cells(cells, &edges, &faces, &centers, out);
     free
 }
 

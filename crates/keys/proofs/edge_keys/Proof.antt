@@ -1,25 +1,19 @@
 -- `keys::edge_keys` meets its contract: the keys passed are those of the edges. Assumes nothing.
-use Prim.Native.Nat.{ℕ, _*_, _-_, _≤_, _<_, min}
+use Prim.Native.Nat.{_*_, _-_, min}
 use native.Mathlib.Omega.{arith}
 use mathlib.Core.Path.{_≡_, refl}
-use mathlib.Core.List.{List, _++_}
 use borrow.Author.Needs.{needs}
-use lib.ListN.{length, drop, replicate, length-set, length-replicate}
-use Rattle.numbers.specs.Rule.{tabulate}
-use Rattle.numbers.proofs.Stored.{stored-more}
 use Rattle.numbering.specs.Refinement.{cellCount}
-use Rattle.numbering.specs.Keys.{edgeKey}
+use Rattle.keys.specs.Keys.{edgeKey}
+use Rattle.keys.proofs.Filled.{Filled, filled-more}
 use Rattle.keys.proofs.edge_keys.Statement.{statement}
 use Rattle.keys.proofs.edge_keys.Tie as tie
 
 abbrev Inv-loop : tie.InvT-loop
-Inv-loop cells keys₀ count j₀ keys j = (j ≤ count) × (length keys ≡ 1536) × (keys ≡ tabulate j (edgeKey cells) ++ drop j keys₀)
+Inv-loop cells keys₀ count j₀ keys j = Filled 1536 (edgeKey cells) count keys j
 
 abbrev μ-loop : tie.MeasureT-loop
 μ-loop cells keys₀ count j₀ keys j = count - j
-
-loop-holds : tie.Need-loop-holds Inv-loop μ-loop
-loop-holds c = (search needs, refl, refl)
 
 edge-key-requires : tie.Need-edge-key-requires Inv-loop μ-loop
 edge-key-requires c κs = let few = c .before .before .counted .ensures in (omega arith, omega arith)
@@ -27,22 +21,14 @@ edge-key-requires c κs = let few = c .before .before .counted .ensures in (omeg
 loop-again : tie.Need-loop-again Inv-loop μ-loop
 loop-again c =
     let turn = c .before .before in
-    let cells = turn .before .before .before .args .cells .now in
-    let j = turn .loop .j in
     let few = turn .before .counted .ensures in
-    let zeros : List ℕ = replicate 1536 0 in
-    let room : j < length zeros = rw (length-replicate {A = ℕ} 1536 0) (omega arith) in (
-      omega arith,
-      simp length-set (turn .loop .inv .1),
-      rw (turn .loop .inv .2, c .edge-key .ensures) (stored-more (edgeKey cells) zeros j 0 room),
-    )
+    filled-more 1536 (edgeKey (turn .before .before .before .args .cells .now)) _ _ _ _ (omega arith) (omega arith) (c .edge-key .ensures) (turn .loop .inv)
 
 returns : tie.Need-returns Inv-loop μ-loop
 returns c =
     let turn = c .before in
-    let cells = turn .before .before .before .args .cells .now in
     let few = turn .before .counted .ensures in
-    let last : turn .loop .j ≡ 12 * min (cellCount cells) 128 = omega arith in
+    let last : turn .loop .j ≡ 12 * min (cellCount (turn .before .before .before .args .cells .now)) 128 = omega arith in
     rw (← last) (turn .loop .inv .2)
 
 pub edge-keys-spec : {M : Type 1} → statement M
@@ -53,7 +39,7 @@ edge-keys-spec =
     μ-loop
     (λ c κs. search needs)
     (λ c. let few = c .counted .ensures in omega arith)
-    loop-holds
+    (λ c. (search needs, refl, refl))
     edge-key-requires
     (λ c. let few = c .before .before .before .counted .ensures in omega arith)
     (λ c. let few = c .before .before .before .counted .ensures in omega arith)

@@ -5,7 +5,7 @@ use borrow.Author.Needs.{needs}
 use lib.ListN.{getD}
 use Rattle.faults.specs.Faults.{node}
 use Rattle.hex.specs.Cube.{idx2node}
-use Rattle.numbering.proofs.Keys.{four-key}
+use Rattle.keys.proofs.Keys.{four-key}
 use Rattle.keys.proofs.face_key.Statement.{statement}
 use Rattle.keys.proofs.face_key.Tie as tie
 

@@ -4,8 +4,7 @@ use native.Mathlib.Nat.{add-zero}
 use native.Mathlib.Omega.{arith}
 use mathlib.Core.Path.{_≡_, refl}
 use borrow.Author.Needs.{needs}
-use Rattle.refine.specs.Search.{Missing}
-use Rattle.refine.proofs.Search.{missing-more}
+use Rattle.refine.proofs.Places.{Missing, missing-more, finds-nothing, finds-at}
 use Rattle.numbers.proofs.Slots.{row-next, row-within}
 use Rattle.refine.proofs.find.Statement.{statement}
 use Rattle.refine.proofs.find.Tie as tie
@@ -46,13 +45,16 @@ search-again c =
     (omega arith, rw row-next (rw full at (inner .inv .3)))
 
 returns : tie.Need-returns Inv-loop μ-loop Inv-search μ-search
-returns c = let last : c .before .search .c ≡ c .before .before .args .cell = c .if1 .taken in rw last at (c .before .search .inv .1)
+returns c =
+    let args = c .before .before .args in
+    let last : c .before .search .c ≡ args .cell = c .if1 .taken in
+    finds-nothing (args .keys .now) (args .numbers .now) _ _ (c .before .before .pre .0) (rw last at (c .before .search .inv .1))
 
 returns-2 : tie.Need-returns-2 Inv-loop μ-loop Inv-search μ-search
 returns-2 c =
     let turn = c .before .before .before .before in
-    let at = turn .before .before .before .args .width * turn .before .before .search .c + turn .loop .i in
-    (at, omega arith, turn .loop .inv .3, c .before .if2 .taken, refl)
+    let args = turn .before .before .before .args in
+    finds-at (args .keys .now) (args .numbers .now) _ _ (turn .before .before .before .pre .0) _ (omega arith) (turn .loop .inv .3) (c .before .if2 .taken)
 
 pub find-spec : {M : Type 1} → statement M
 find-spec =

@@ -2,7 +2,7 @@
 use native.Mathlib.Omega.{arith}
 use borrow.Author.Needs.{needs}
 use mathlib.Core.Path.{ap, _∙_}
-use lib.ListN.{length}
+use lib.ListN.{length, getD}
 use Rattle.refine.specs.Search.{row, childrenOf}
 use Rattle.refine.proofs.Output.{same-children}
 use Rattle.refine.proofs.Search.{copied}
@@ -14,10 +14,10 @@ unfolding childrenOf
 returns c =
     let written = c .before .before in
     let divided = written .before .before .before in
-    let third = divided .before .before in
+    let third = divided .before .before .before in
     let second = third .before .before .before in
     let first = second .before .before .before in
-    let start = first .before .before .before .before .before .before in
+    let start = first .before .before .before .before .before .before .before in
     let args = start .args in
     let numbers = divided .subdivide .ensures in
     let long = ap length numbers in
@@ -28,6 +28,7 @@ returns c =
     {corner′ = row 8 (args .cells .now) (args .cell)}
     {edge′ = row 12 (args .edges .now) (args .cell)}
     {quad′ = row 6 (args .faces .now) (args .cell)}
+    {center = getD (args .centers .now) (args .cell) 0}
     (first .copy-row .ensures)
     (second .copy-row2 .ensures)
     (third .copy-row3 .ensures)
@@ -45,6 +46,8 @@ write-children-spec =
     (λ c. search needs)
     (λ c. search needs)
     (λ c κs. search needs)
+    (λ c. search needs)
+    (λ c. search needs)
     (λ c κs. search needs)
     (λ c. search needs)
     (λ c κs. search needs)

@@ -1,17 +1,20 @@
 -- Keys tell edges and faces apart: a list in rising order is its members' only one, and digits below the base can be read back. Assumes nothing.
-use Prim.Native.Nat.{ℕ, suc, _+_, _*_, _≤_, _<_, min, max}
+use Prim.Native.Nat.{ℕ, suc, _+_, _*_, _^_, _≤_, _<_, min, max}
+use native.Mathlib.Nat.{pow-suc, mul-le-mul-right}
 use native.Mathlib.Omega.{arith}
 use mathlib.Core.Path.{_≡_, refl, sym, ap, _∙_}
 use mathlib.Core.Bool.{Bool, true, false, _||_, not, or-true}
 use mathlib.Core.List.{List, [], _∷_}
 use borrow.Author.Tests.{eq-eqb, eqb-true, eqb-false, ltb-true, ltb-false}
 use lib.Dec.{T, eqb, ltb, T-not}
+use mathlib.Core.Logic.{inl, inr, ⊎-elim}
 use lib.ListN.{length}
 use Rattle.numbers.proofs.Cases.{cases, never, passes, is-false, fails}
 use Rattle.numbers.proofs.Tests.{first, second}
-use Rattle.numbering.specs.FirstMet.{among}
-use Rattle.numbering.specs.Keys.{insert, rising, packed, key, apart, KeysTell}
+use Rattle.numbers.specs.FirstMet.{among, apart}
+use Rattle.keys.specs.Keys.{insert, rising, packed, key, Nodes, PairsInOrder, KeysTell}
+use Rattle.numbering.proofs.Cells.{Different}
 use Rattle.numbering.proofs.Same.{members, by-members}
 
 or-swap : (a b c : Bool) → (a || (b || c)) ≡ (b || (a || c))
 or-swap true b c = sym (or-true b)
@@ -61,11 +64,11 @@ insert-rises x (y ∷ ys) r h =
       insert-rises x ys (r .1) (rw other at h),
     ))
 
-rising-rises : (ps : List ℕ) → T (apart ps) → Rises (rising ps)
+rising-rises : (ps : List ℕ) → T (apart eqb ps) → Rises (rising ps)
 rising-rises [] d = tt
 rising-rises (p ∷ ps) d =
-    insert-rises p (rising ps) (rising-rises ps (second (not (among eqb ps p)) (apart ps) d))
-    (rising-members ps p ∙ fails (among eqb ps p) (first (not (among eqb ps p)) (apart ps) d))
+    insert-rises p (rising ps) (rising-rises ps (second (not (among eqb ps p)) (apart eqb ps) d))
+    (rising-members ps p ∙ fails (among eqb ps p) (first (not (among eqb ps p)) (apart eqb ps) d))
 
 -- two rising lists with the same members are one list
 head-below : (x y : ℕ) (ys : List ℕ) → Rises (y ∷ ys) → among eqb (y ∷ ys) x ≡ true → y ≤ x
@@ -87,18 +90,59 @@ only-one (x ∷ xs) (y ∷ ys) r s h =
     (λ t. let q = eqb-true y z t in rw (← q) (rw e at (not-below-itself x xs r) ∙ sym (not-below-itself y ys s)))
     (λ f. rw (e, f) at (h z)))))
 
-packed-tells : (xs ys : List ℕ) → length xs ≡ length ys → ((z : ℕ) → among eqb xs z ≡ true → z < 1024) → ((z : ℕ) → among eqb ys z ≡ true → z < 1024) →
-    packed xs ≡ packed ys → xs ≡ ys
+-- digits below the base
+abbrev Small : List ℕ → Type 0
+Small xs = (z : ℕ) → among eqb xs z ≡ true → z < 1024
+
+small-head : (x : ℕ) (xs : List ℕ) → Small (x ∷ xs) → x < 1024
+small-head x xs h = h x (rw (eq-eqb x x refl))
+
+small-tail : (x : ℕ) (xs : List ℕ) → Small (x ∷ xs) → Small xs
+small-tail x xs h z m = h z (rw m (or-true (eqb x z)))
+
+packed-below : (xs : List ℕ) → Small xs → packed xs < 1024 ^ length xs
+packed-below [] h = omega arith
+packed-below (x ∷ xs) h =
+    let rest = packed-below xs (small-tail x xs h) in
+    let head : x ≤ 1023 = let less = small-head x xs h in omega arith in
+    omega (arith, pow-suc 1024 (length xs), mul-le-mul-right (1024 ^ length xs) head)
+
+-- a smaller first digit makes a smaller number, whatever is behind it
+lower : (b x y p q : ℕ) → p < b → x < y → x * b + p < y * b + q
+lower b x y p q h less = omega (arith, mul-le-mul-right b less)
+
+packed-tells : (xs ys : List ℕ) → length xs ≡ length ys → Small xs → Small ys → packed xs ≡ packed ys → xs ≡ ys
 packed-tells [] [] l hx hy e = refl
 packed-tells [] (y ∷ ys) l hx hy e = absurd (omega arith)
 packed-tells (x ∷ xs) [] l hx hy e = absurd (omega arith)
 packed-tells (x ∷ xs) (y ∷ ys) l hx hy e =
-    let x-small = hx x (rw (eq-eqb x x refl)) in
-    let y-small = hy y (rw (eq-eqb y y refl)) in
-    let head : x ≡ y = omega arith in
-    let tail : packed xs ≡ packed ys = omega arith in
-    let same-length : length xs ≡ length ys = omega arith in
-    rw (head, packed-tells xs ys same-length (λ z m. hx z (rw m (or-true (eqb x z)))) (λ z m. hy z (rw m (or-true (eqb y z)))) tail)
+    let long : length xs ≡ length ys = omega arith in
+    let b = 1024 ^ length ys in
+    let same : x * b + packed xs ≡ y * b + packed ys = rw long at e in
+    let first : packed xs < b = rw long at (packed-below xs (small-tail x xs hx)) in
+    let second = packed-below ys (small-tail y ys hy) in
+    let head : x ≡ y =
+    cases (ltb x y)
+    (λ t. let less = lower b x y (packed xs) (packed ys) first (ltb-true x y t) in absurd (omega arith))
+    (λ f.
+    cases (ltb y x)
+    (λ t. let less = lower b y x (packed ys) (packed xs) second (ltb-true y x t) in absurd (omega arith))
+    (λ g. let most = ltb-false x y f in let least = ltb-false y x g in omega arith)) in
+    let tail : packed xs ≡ packed ys = omega (arith, rw head at same) in
+    rw (head, packed-tells xs ys long (small-tail x xs hx) (small-tail y ys hy) tail)
+
+pub pairs-in-order : PairsInOrder
+pairs-in-order a b c d hb hd = (
+  (λ less.
+      cases (ltb a c)
+      (λ t. inl (ltb-true a c t))
+      (λ f. let most = ltb-false a c f in inr (omega arith, omega arith))),
+  (λ less. ⊎-elim (λ (first : a < c). omega arith) (λ (both : (a ≡ c) × (b < d)). omega (arith, both .0, both .1)) less),
+)
+
+-- different node numbers of a mesh are such nodes
+pub key-nodes : (n : ℕ) (ps : List ℕ) → n ≤ 1024 → Different n ps → Nodes ps
+key-nodes n ps few h = record { small = λ x m. let less = h .below x m in omega arith; differ = h .differ }
 
 pub keys-tell : KeysTell
 unfolding key
@@ -224,7 +268,7 @@ module _ (a b c d : ℕ) where
       ap (insert a) three ∙ into-three a x y z (omega arith) (omega arith) ∙ four-alike a b r s (omega arith)
 
 -- the keys of two and of four numbers
-pub pair-key : (a b : ℕ) → min a b + 1024 * max a b ≡ key (a ∷ b ∷ [])
+pub pair-key : (a b : ℕ) → max a b + 1024 * min a b ≡ key (a ∷ b ∷ [])
 unfolding key
 pair-key a b =
     cases (ltb a b)

@@ -1,13 +1,18 @@
 -- Things in the order in which they are first met, whatever counts as the same thing. Definitions only.
 use Prim.Native.Nat.{ℕ, suc}
 use mathlib.Core.Path.{_≡_}
-use mathlib.Core.Bool.{Bool, true, false, cond, _||_}
+use mathlib.Core.Bool.{Bool, true, false, cond, not, _&&_, _||_}
 use mathlib.Core.List.{List, [], _∷_, _++_}
 
 -- whether one of these is the same as x
 abbrev pub among : {A : Type 0} → (A → A → Bool) → List A → A → Bool
 among same [] x = false
 among same (y ∷ ys) x = same y x || among same ys x
+
+-- no two of these are the same
+abbrev pub apart : {A : Type 0} → (A → A → Bool) → List A → Bool
+apart same [] = true
+apart same (x ∷ xs) = not (among same xs x) && apart same xs
 
 -- those met so far, and then xs: what is the same as one met before is left out
 unfoldable pub meet : {A : Type 0} → (A → A → Bool) → List A → List A → List A

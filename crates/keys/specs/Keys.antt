@@ -1,14 +1,15 @@
--- How code may keep an edge or a face: its node numbers in rising order, as the digits of one number. Definitions and claims only.
-use Prim.Native.Nat.{ℕ, _+_, _*_, _/_, _%_, _<_}
+-- How the refinement's code keeps an edge or a face: its node numbers in rising order are the digits of one number, its key. No promise to a user cites these.
+-- Definitions and claims only.
+use Prim.Native.Nat.{ℕ, _+_, _*_, _/_, _%_, _^_, _<_}
 use mathlib.Core.Path.{_≡_}
-use mathlib.Core.Bool.{Bool, true, _&&_, not, cond}
+use mathlib.Core.Bool.{true, cond}
 use mathlib.Core.List.{List, [], _∷_, _++_}
-use mathlib.Core.Logic.{_↔_}
+use mathlib.Core.Logic.{_↔_, _⊎_}
 use lib.Dec.{T, eqb, ltb}
 use lib.ListN.{length, drop, replicate}
 use Rattle.numbers.specs.Rule.{tabulate}
-use Rattle.numbering.specs.FirstMet.{among}
+use Rattle.numbers.specs.FirstMet.{among, apart}
 use Rattle.numbering.specs.Refinement.{sameNodes, edgeNodes, faceNodes}
 
 abbrev pub insert : ℕ → List ℕ → List ℕ
 insert x [] = x ∷ []
@@ -18,10 +19,10 @@ abbrev pub rising : List ℕ → List ℕ
 rising [] = []
 rising (x ∷ xs) = insert x (rising xs)
 
--- in base 1,024, which no node number reaches, the first digit lowest
+-- in base 1,024, which no node number reaches, the first digit highest
 abbrev pub packed : List ℕ → ℕ
 packed [] = 0
-packed (x ∷ xs) = x + 1024 * packed xs
+packed (x ∷ xs) = x * 1024 ^ length xs + packed xs
 
 unfoldable pub key : List ℕ → ℕ
 key ps = packed (rising ps)
@@ -37,15 +38,15 @@ faceKey cells j = key (faceNodes cells (j / 6) (j % 6))
 abbrev pub keysIn : ℕ → ℕ → (ℕ → ℕ) → List ℕ
 keysIn room m keyAt = tabulate m keyAt ++ drop m (replicate room 0)
 
--- no number stands twice
-abbrev pub apart : List ℕ → Bool
-apart [] = true
-apart (p ∷ ps) = not (among eqb ps p) && apart ps
-
 -- different node numbers
 pub record Nodes (ps : List ℕ) : Type 0 where
   pub small : (x : ℕ) → among eqb ps x ≡ true → x < 1024
-  pub differ : T (apart ps)
+  pub differ : T (apart eqb ps)
+
+-- So pairs of nodes stand in the order of their numbers: by the first node, and by the second where the first is the same.
+abbrev pub PairsInOrder : Type 0
+PairsInOrder =
+    (a b c d : ℕ) → b < 1024 → d < 1024 → (packed (a ∷ b ∷ []) < packed (c ∷ d ∷ [])) ↔ ((a < c) ⊎ ((a ≡ c) × (b < d)))
 
 -- Two edges, or two faces, have one key exactly when they have the same nodes.
 abbrev pub KeysTell : Type 0

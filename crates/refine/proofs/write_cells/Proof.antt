@@ -1,0 +1,64 @@
+-- `refine::write_cells` meets its contract: before each cell the output has the children of the cells passed. Assumes nothing.
+use Prim.Native.Nat.{_+_, _*_, _-_, _≤_}
+use native.Mathlib.Omega.{arith}
+use mathlib.Core.Path.{_≡_, refl, _∙_}
+use mathlib.Core.List.{_++_}
+use borrow.Author.Needs.{needs}
+use lib.ListN.{length, drop}
+use Rattle.numbering.specs.Refinement.{cellCount, chain}
+use Rattle.refine.specs.Search.{childrenOf}
+use Rattle.refine.proofs.Output.{children-long, chain-length, nothing-yet, part-more}
+use Rattle.refine.proofs.write_cells.Statement.{statement}
+use Rattle.refine.proofs.write_cells.Tie as tie
+
+abbrev Inv-loop : tie.InvT-loop
+Inv-loop cells edges faces centers out₀ count cell₀ out cell =
+    (cell ≤ count) × (length out ≡ length out₀) × (out ≡ chain cell (childrenOf cells edges faces centers) ++ drop (64 * cell) out₀)
+
+abbrev μ-loop : tie.MeasureT-loop
+μ-loop cells edges faces centers out₀ count cell₀ out cell = count - cell
+
+loop-holds : tie.Need-loop-holds Inv-loop μ-loop
+loop-holds c = (search needs, refl, nothing-yet _ _)
+
+loop-again : tie.Need-loop-again Inv-loop μ-loop
+loop-again c =
+    let wrote = c .before .before in
+    let turn = wrote .before .before .before in
+    let args = turn .before .before .before .before .before .before .args in
+    let cell = turn .loop .cell in
+    let wide : 64 * cell + 64 - 64 * cell ≡ 64 = omega arith in
+    let long = children-long (args .cells .now) (args .edges .now) (args .faces .now) (args .centers .now) in (
+      omega arith,
+      c .before .out .given .1 ∙ turn .loop .inv .1,
+      part-more _ long cell (64 * cell + 64 - 64 * cell) _ _ _ wide (wrote .write-children .ensures) (turn .loop .inv .2),
+    )
+
+returns : tie.Need-returns Inv-loop μ-loop
+returns c =
+    let args = c .before .before .before .before .before .before .before .args in
+    let count = cellCount (args .cells .now) in
+    let long = children-long (args .cells .now) (args .edges .now) (args .faces .now) (args .centers .now) in
+    let done : c .before .loop .cell ≡ count = omega arith in
+    rw (chain-length 64 (childrenOf (args .cells .now) (args .edges .now) (args .faces .now) (args .centers .now)) long count)
+    (rw done at (c .before .loop .inv .2))
+
+pub write-cells-spec : {M : Type 1} → statement M
+write-cells-spec =
+    tie.close
+    (tie.spec
+    Inv-loop
+    μ-loop
+    loop-holds
+    (λ c. search needs)
+    (λ c. search needs)
+    (λ c. search needs)
+    (λ c. search needs)
+    (λ c. search needs)
+    (λ c. search needs)
+    (λ c κs. search needs)
+    (λ c. search needs)
+    (λ c. search needs)
+    loop-again
+    (λ c. search needs)
+    returns)
