@@ -136,12 +136,12 @@ fn write_cells(cells: &[u32], edges: &[u32], faces: &[u32], centers: &[u32], out
         left (answered (childrenBy (now (cells .entry)) (now (edges .entry)) (now (faces .entry)) (now (centers .entry)))) (now (out .entry)) ⌝ }
 {
     let count = cells.len() / 8;
-    let mut cell: usize = 0;
-    while cell < count {
-        let start = 64 * cell;
+    let mut place: usize = 0;
+    while place < count {
+        let start = 64 * place;
         let end = start + 64;
-        write_children(&mut out[start..end], cells, edges, faces, centers, cell);
-        cell += 1;
+        write_children(&mut out[start..end], cells, edges, faces, centers, place);
+        place += 1;
     }
 }
 

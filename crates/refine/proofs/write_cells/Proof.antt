@@ -12,11 +12,11 @@ use Rattle.refine.proofs.write_cells.Statement.{statement}
 use Rattle.refine.proofs.write_cells.Tie as tie
 
 abbrev Inv-loop : tie.InvT-loop
-Inv-loop cells edges faces centers out₀ count cell₀ out cell =
-    (cell ≤ count) × (length out ≡ length out₀) × (out ≡ chain cell (childrenOf cells edges faces centers) ++ drop (64 * cell) out₀)
+Inv-loop cells edges faces centers out₀ count place₀ out place =
+    (place ≤ count) × (length out ≡ length out₀) × (out ≡ chain place (childrenOf cells edges faces centers) ++ drop (64 * place) out₀)
 
 abbrev μ-loop : tie.MeasureT-loop
-μ-loop cells edges faces centers out₀ count cell₀ out cell = count - cell
+μ-loop cells edges faces centers out₀ count place₀ out place = count - place
 
 loop-holds : tie.Need-loop-holds Inv-loop μ-loop
 loop-holds c = (search needs, refl, nothing-yet _ _)
@@ -26,12 +26,12 @@ loop-again c =
     let wrote = c .before .before in
     let turn = wrote .before .before .before in
     let args = turn .before .before .before .before .before .before .args in
-    let cell = turn .loop .cell in
-    let wide : 64 * cell + 64 - 64 * cell ≡ 64 = omega arith in
+    let place = turn .loop .place in
+    let wide : 64 * place + 64 - 64 * place ≡ 64 = omega arith in
     let long = children-long (args .cells .now) (args .edges .now) (args .faces .now) (args .centers .now) in (
       omega arith,
       c .before .out .given .1 ∙ turn .loop .inv .1,
-      part-more _ long cell (64 * cell + 64 - 64 * cell) _ _ _ wide (wrote .write-children .ensures) (turn .loop .inv .2),
+      part-more _ long place (64 * place + 64 - 64 * place) _ _ _ wide (wrote .write-children .ensures) (turn .loop .inv .2),
     )
 
 returns : tie.Need-returns Inv-loop μ-loop
@@ -39,7 +39,7 @@ returns c =
     let args = c .before .before .before .before .before .before .before .args in
     let count = cellCount (args .cells .now) in
     let long = children-long (args .cells .now) (args .edges .now) (args .faces .now) (args .centers .now) in
-    let done : c .before .loop .cell ≡ count = omega arith in
+    let done : c .before .loop .place ≡ count = omega arith in
     rw (chain-length 64 (childrenOf (args .cells .now) (args .edges .now) (args .faces .now) (args .centers .now)) long count)
     (rw done at (c .before .loop .inv .2))
 
