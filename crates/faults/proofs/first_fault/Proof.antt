@@ -17,8 +17,8 @@ abbrev μ-loop : tie.MeasureT-loop
 loop-again : tie.Need-loop-again Inv-loop μ-loop
 loop-again c =
     let turn = c .before .before .before .before in
-    let cells = turn .before .before .args .cells .now in
-    looked-more _ _ (node 8 cells (turn .loop .c)) (turn .loop .inv) (omega arith) (omega arith) (λ j h. refl) (c .before .cell-at .ensures) (c .fault-of .ensures)
+    let corner = node 8 (turn .before .before .args .cells .now) (turn .loop .c) in
+    looked-more _ _ corner (turn .loop .inv) (omega arith) (omega arith) (λ j h. refl) (c .before .cell-at .ensures) (c .fault-of .ensures)
 
 pub first-fault-spec : {M : Type 1} → statement M
 first-fault-spec =
