@@ -46,7 +46,7 @@ module _ (n : ℕ) (cells : List ℕ) where
       let rest = drop (length kids) old in
       let output : out ≡ kids ++ rest = rw is at w in
       let answer : refined n cells 8192 ≡ answered next = sym e ∙ is in
-      let lines : table 8 (kids ++ rest) (8 * cellCount cells) ≡ table 8 kids (8 * cellCount cells) = table-head 8 (8 * cellCount cells) kids rest (omega (arith, kids-long)) in
+      let lines = table-head 8 (8 * cellCount cells) kids rest (omega (arith, kids-long)) in
       rw (answer, output) (ap (λ (t : List ℕ). headLine (cellCount cells) next ++ t) lines)
 
   pub refused-kids : (k : ℕ) (a : Answer ℕ) → a ≡ refused k → a ≡ refined n cells 8192 → refusedLine k ≡ shown (kidsOf n cells)

@@ -10,19 +10,19 @@ use lib.Seq.{take-suc-set, drop-set-lt, drop-drop}
 use borrow.Author.Tests.{lt-ltb, le-ltb}
 use Rattle.kids.specs.Text.{decimalIn, joined, Wrote, WroteLeavesOne}
 
-pub wrote-none : (l : List ℕ) (at : ℕ) → Wrote l l at at []
-wrote-none l at = record { ends = omega arith; reads = sym (append-nil (take at l)); rest = refl; keeps = refl }
+pub wrote-none : {l : List ℕ} {at : ℕ} → Wrote l l at at []
+wrote-none {l} {at} = record { ends = omega arith; reads = sym (append-nil (take at l)); rest = refl; keeps = refl }
 
-pub wrote-byte : (l : List ℕ) (at b : ℕ) → at < length l → Wrote l (set l at b) at (at + 1) (b ∷ [])
-wrote-byte l at b inside =
+pub wrote-byte : {l : List ℕ} {at b : ℕ} → at < length l → Wrote l (set l at b) at (at + 1) (b ∷ [])
+wrote-byte {l} {at} {b} inside =
     record { ends = refl; reads = rw (add-one, take-suc-set l at b inside); rest = drop-set-lt (at + 1) l at b (omega arith); keeps = length-set l at b }
 
 -- what is the same from mid on is the same from any later place on
 same-behind : (a b : List ℕ) (mid more : ℕ) → drop mid a ≡ drop mid b → drop (mid + more) a ≡ drop (mid + more) b
 same-behind a b mid more e = rw (← drop-drop more mid a, ← drop-drop more mid b, e)
 
-pub wrote-then : (a b c : List ℕ) (at mid end : ℕ) (t u : List ℕ) → Wrote a b at mid t → Wrote b c mid end u → Wrote a c at end (t ++ u)
-wrote-then a b c at mid end t u w v =
+pub wrote-then : {a b c : List ℕ} {at mid end : ℕ} {t u : List ℕ} → Wrote a b at mid t → Wrote b c mid end u → Wrote a c at end (t ++ u)
+wrote-then {a} {b} {c} {at} {mid} {end} {t} {u} w v =
     record {
       ends = rw (length-append t u) (omega (arith, w .ends, v .ends));
       reads = v .reads ∙ ap (λ (l : List ℕ). l ++ u) (w .reads) ∙ append-assoc (take at a) t u;
@@ -30,12 +30,12 @@ wrote-then a b c at mid end t u w v =
       keeps = v .keeps ∙ w .keeps;
     }
 
-pub wrote-as : (before after : List ℕ) (at end : ℕ) (t u : List ℕ) → t ≡ u → Wrote before after at end t → Wrote before after at end u
-wrote-as before after at end t u e w = rw e at w
+pub wrote-as : {before after : List ℕ} {at end : ℕ} {t u : List ℕ} → t ≡ u → Wrote before after at end t → Wrote before after at end u
+wrote-as e w = rw e at w
 
 -- what is written from the start is the head of the buffer
-pub wrote-counts : (before after : List ℕ) (end : ℕ) (t : List ℕ) → Wrote before after 0 end t → (end ≤ length after) × (end ≡ length (take end after))
-wrote-counts before after end t w =
+pub wrote-counts : {before after : List ℕ} {end : ℕ} {t : List ℕ} → Wrote before after 0 end t → (end ≤ length after) × (end ≡ length (take end after))
+wrote-counts {before} {after} {end} {t} w =
     let whole : end ≡ length (take end after) = w .ends ∙ omega (arith, ap length (w .reads)) in
     (omega (arith, length-take end after, whole), whole)
 

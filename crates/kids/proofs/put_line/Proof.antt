@@ -28,8 +28,8 @@ loop-again c =
     let put = sign .before .before .before .before in
     let turn = put .before .before .before .before in
     let args = turn .before .before .before .args in
-    let number = wrote-then _ (turn .loop .out) _ _ _ _ _ _ (turn .loop .inv .1) (put .put-decimal .ensures .0) in
-    let text = wrote-then _ _ _ _ _ _ _ _ number (rw (sign .behind .ensures) at (last .put-byte .ensures)) in (
+    let number = wrote-then {b = turn .loop .out} (turn .loop .inv .1) (put .put-decimal .ensures .0) in
+    let text = wrote-then number (rw (sign .behind .ensures) at (last .put-byte .ensures)) in (
       omega arith,
       rw (joined-more, ← append-assoc) text,
       omega (arith, put .put-decimal .ensures .1, last .put-byte .ensures .ends),
@@ -46,7 +46,7 @@ put-line-spec =
     (tie.spec
     Inv-loop
     μ-loop
-    (λ c. (omega arith, rw joined-none (wrote-none _ _), omega arith))
+    (λ c. (omega arith, rw joined-none wrote-none, omega arith))
     (λ c. search needs)
     (λ c. search needs)
     (λ c. search needs)

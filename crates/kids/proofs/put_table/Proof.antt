@@ -24,7 +24,7 @@ loop-again c =
     let put = c .before .before in
     let turn = put .before .before .before in (
       omega arith,
-      rw joined-more (wrote-then _ (turn .loop .out) _ _ _ _ _ _ (turn .loop .inv .1) (put .put-line .ensures .0)),
+      rw joined-more (wrote-then {b = turn .loop .out} (turn .loop .inv .1) (put .put-line .ensures .0)),
       omega (arith, put .put-line .ensures .1),
     )
 
@@ -52,7 +52,7 @@ put-table-spec =
     (tie.spec
     Inv-loop
     μ-loop
-    (λ c. (omega arith, rw joined-none (wrote-none _ _), omega arith))
+    (λ c. (omega arith, rw joined-none wrote-none, omega arith))
     mul-put-line
     put-line-requires
     (λ c. search needs)

@@ -23,9 +23,10 @@ loop-again c =
     let put = c .before .before in
     let turn = put .before .before .before .before in
     let text = turn .before .before .before .args .text .now in
-    let next : take (turn .loop .i + 1) text ≡ take (turn .loop .i) text ++ (getD text (turn .loop .i) 0 ∷ []) = rw add-one (take-suc text (turn .loop .i) 0 (omega arith)) in (
+    let i = turn .loop .i in
+    let next : take (i + 1) text ≡ take i text ++ (getD text i 0 ∷ []) = rw add-one (take-suc text i 0 (omega arith)) in (
       omega arith,
-      rw next (wrote-then _ (turn .loop .out) _ _ _ _ _ _ (turn .loop .inv .1) (put .put-byte .ensures)),
+      rw next (wrote-then {b = turn .loop .out} (turn .loop .inv .1) (put .put-byte .ensures)),
       omega (arith, put .put-byte .ensures .ends),
     )
 
@@ -41,7 +42,7 @@ put-text-spec =
     (tie.spec
     Inv-loop
     μ-loop
-    (λ c. (omega arith, wrote-none _ _, omega arith))
+    (λ c. (omega arith, wrote-none, omega arith))
     (λ c. search needs)
     (λ c κs. omega (arith, c .before .before .before .loop .inv .1 .keeps))
     (λ c. search needs)
