@@ -28,7 +28,7 @@ loop-again c =
     let put = sign .before .before .before .before in
     let turn = put .before .before .before .before in
     let args = turn .before .before .before .args in
-    let number = wrote-then {b = turn .loop .out} (turn .loop .inv .1) (put .put-decimal .ensures .0) in
+    let number = wrote-then (turn .loop .inv .1) (put .put-decimal .ensures .0) in
     let text = wrote-then number (rw (sign .behind .ensures) at (last .put-byte .ensures)) in (
       omega arith,
       rw (joined-more, ← append-assoc) text,

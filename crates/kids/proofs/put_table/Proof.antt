@@ -24,7 +24,7 @@ loop-again c =
     let put = c .before .before in
     let turn = put .before .before .before in (
       omega arith,
-      rw joined-more (wrote-then {b = turn .loop .out} (turn .loop .inv .1) (put .put-line .ensures .0)),
+      rw joined-more (wrote-then (turn .loop .inv .1) (put .put-line .ensures .0)),
       omega (arith, put .put-line .ensures .1),
     )
 

@@ -26,7 +26,7 @@ loop-again c =
     let i = turn .loop .i in
     let next : take (i + 1) text ≡ take i text ++ (getD text i 0 ∷ []) = rw add-one (take-suc text i 0 (omega arith)) in (
       omega arith,
-      rw next (wrote-then {b = turn .loop .out} (turn .loop .inv .1) (put .put-byte .ensures)),
+      rw next (wrote-then (turn .loop .inv .1) (put .put-byte .ensures)),
       omega (arith, put .put-byte .ensures .ends),
     )
 
