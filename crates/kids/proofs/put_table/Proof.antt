@@ -1,8 +1,8 @@
 -- `kids::put_table` meets its contract: the first i lines are written. Assumes nothing.
-use Prim.Native.Nat.{ℕ, _+_, _*_, _-_, _≤_, _<_}
-use native.Mathlib.Nat.{mul-le-mul-left}
+use Prim.Native.Nat.{ℕ, _*_, _-_}
 use native.Mathlib.Omega.{arith}
 use borrow.Author.Needs.{needs}
+use Rattle.numbers.proofs.Slots.{row-within}
 use Rattle.kids.specs.Text.{line}
 use Rattle.kids.proofs.Writing.{Writes, writes-none, writes-more, writes-all}
 use Rattle.kids.proofs.put_table.Statement.{statement}
@@ -14,10 +14,6 @@ Inv-loop out₀ at numbers w n end₀ i₀ out end i = Writes (λ (k : ℕ). lin
 abbrev μ-loop : tie.MeasureT-loop
 μ-loop out₀ at numbers w n end₀ i₀ out end i = n - i
 
--- one line more fits where n lines do
-line-fits : (w i n : ℕ) → i < n → w * i + w ≤ w * n
-line-fits w i n h = omega (arith, mul-le-mul-left w h)
-
 loop-again : tie.Need-loop-again Inv-loop μ-loop
 loop-again c =
     let put = c .before .before in
@@ -27,13 +23,13 @@ mul-put-line : tie.Need-mul-put-line Inv-loop μ-loop
 mul-put-line c =
     let turn = c .before .before in
     let args = turn .before .before .before .args in
-    omega (arith, line-fits (args .w) (turn .loop .i) (args .n) (omega arith))
+    omega (arith, row-within (args .w) (turn .loop .i) (args .n) (omega arith))
 
 put-line-requires : tie.Need-put-line-requires Inv-loop μ-loop
 put-line-requires c κs =
     let turn = c .before .before in
     let args = turn .before .before .before .args in
-    let fits = line-fits (args .w) (turn .loop .i) (args .n) (omega arith) in
+    let fits = row-within (args .w) (turn .loop .i) (args .n) (omega arith) in
     (omega arith, omega (arith, turn .loop .inv .wrote .keeps))
 
 pub put-table-spec : {M : Type 1} → statement M
