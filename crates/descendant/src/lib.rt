@@ -11,24 +11,14 @@ pub enum Descended {
     Refused(u32),
 }
 
-// hex::HEX_SIGN in whole numbers.
-const HEX_SIGN: [[i32; 3]; 8] = [
-    [-1, -1, -1],
-    [1, -1, -1],
-    [1, 1, -1],
-    [-1, 1, -1],
-    [-1, -1, 1],
-    [1, -1, 1],
-    [1, 1, 1],
-    [-1, 1, 1],
-];
-
+// `hex::HEX_SIGN[k][i]` in whole numbers, by the number's bits, so that no table is laid out. Each axis has a bit, but a ring goes round: its corners are
+// on the upper side of the first axis where the two lowest bits differ.
 fn sign(k: u32, i: usize) -> i32
     requires { ⌜ (k < 8) × (i < 3) ⌝ }
     ensures { λ r. ⌜ r ≡ sign k i ⌝ }
 {
-    let row = k as usize;
-    HEX_SIGN[row][i]
+    let sides = k ^ ((k >> 1) & 1);
+    if (sides >> i) & 1 == 0 { -1 } else { 1 }
 }
 
 // An octant's share of a place that lies d levels deeper.

@@ -3,15 +3,17 @@ use Prim.Native.Nat.{ℕ, zero, suc, _+_, _/_, _≤_, _<_}
 use native.Mathlib.Nat.{eq-or-lt-of-le, le-of-suc-le-suc, not-suc-le-zero}
 use native.Mathlib.Numerals.{add-one}
 use native.Mathlib.Omega.{arith}
-use mathlib.Core.Path.{_≡_, refl, sym, ap}
+use mathlib.Core.Path.{_≡_, refl, sym, _∙_, ap}
 use mathlib.Core.Logic.{⊎-elim}
 use mathlib.Core.Bool.{Bool, true, false, cond, not}
 use mathlib.Core.List.{List}
 use lib.Dec.{eqb, ltb, eqb·suc-zero}
 use lib.ListN.{length}
 use borrow.Author.Tests.{ne-eqb, eqb-false, ltb-true, lt-ltb, not-true}
+use Rattle.numbers.specs.Rule.{tabulate}
 use Rattle.numbers.proofs.All.{all-each, all-where, all-alike}
-use Rattle.faults.specs.Faults.{node, differs, newAt, inRange, different, fault, faultAt, orElse, firstTo, Sound, FaultlessIsSound}
+use Rattle.numbers.proofs.Tabulate.{tabulate-at}
+use Rattle.faults.specs.Faults.{node, names, differs, newAt, inRange, different, fault, faultAt, orElse, firstTo, firstFault, Sound, FaultlessIsSound}
 
 no-test : (a b : Bool) → _≡_ {A = ℕ} (cond a (cond b 0 10) 9) 0 → (a ≡ true) × (b ≡ true)
 no-test true true e = (refl, refl)
@@ -40,7 +42,7 @@ module _ (n k : ℕ) (name : ℕ → ℕ) where
 
 -- cells whose corners have the same names have the same fault
 module _ (n k : ℕ) (name name′ : ℕ → ℕ) (same : (j : ℕ) → j < k → name j ≡ name′ j) where
-  pub fault-alike : fault n k name ≡ fault n k name′
+  fault-alike : fault n k name ≡ fault n k name′
   fault-alike =
       let ranged : inRange n k name ≡ inRange n k name′ =
       all-alike (λ (j : ℕ). ltb (name j) n) (λ (j : ℕ). ltb (name′ j) n) k (λ j h. rw (same j h)) in
@@ -54,12 +56,8 @@ earlier-none zero b e = (refl, e)
 earlier-none (suc a) b e = absurd (omega (arith, rw (eqb·suc-zero a) at e))
 
 module _ (n k : ℕ) (cells : List ℕ) where
-  pub first-more : (c f : ℕ) → firstTo n k cells c ≡ 0 → f ≡ faultAt n k cells c → firstTo n k cells (c + 1) ≡ f
-  unfolding firstTo
-  first-more c f none e = rw (add-one, none) (sym e)
-
   -- once there is a fault it stays
-  pub first-stays : (c d f : ℕ) → c ≤ d → (f ≡ 0 → ⊥) → firstTo n k cells c ≡ f → firstTo n k cells d ≡ f
+  first-stays : (c d f : ℕ) → c ≤ d → (f ≡ 0 → ⊥) → firstTo n k cells c ≡ f → firstTo n k cells d ≡ f
   unfolding firstTo
   first-stays c zero f h some e = let none : c ≡ 0 = omega arith in rw none at e
   first-stays c (suc d) f h some e =
@@ -79,6 +77,35 @@ module _ (n k : ℕ) (cells : List ℕ) where
   unfolding firstTo
   none-first zero f = refl
   none-first (suc d) f = rw (none-first d (λ c h. f c (omega arith)), f d (omega arith))
+
+-- what a search holds that looks at m cells, each in a copy, until there is a fault: f is the first of the c that it has looked at
+pub record Looked (n k : ℕ) (cells : List ℕ) (m c f : ℕ) : Type 0 where
+  pub whole : length cells / k ≡ m
+  pub within : c ≤ m
+  pub first : firstTo n k cells c ≡ f
+
+module _ {n k : ℕ} {cells : List ℕ} {m : ℕ} where
+  pub looked-none : length cells / k ≡ m → Looked n k cells m 0 0
+  unfolding firstTo
+  looked-none whole = record { whole = whole; within = omega arith; first = refl }
+
+  pub looked-more : {c f : ℕ} (g : ℕ) (cell : List ℕ) (name : ℕ → ℕ) → Looked n k cells m c f → f ≡ 0 → c < m
+      → ((j : ℕ) → j < k → name j ≡ node k cells c j) → cell ≡ tabulate k name → g ≡ fault n k (names cell) → Looked n k cells m (c + 1) g
+  unfolding firstTo faultAt
+  looked-more {c} {f} g cell name l none below same copy e =
+      let read : (j : ℕ) → j < k → names (tabulate k name) j ≡ node k cells c j = λ j h. tabulate-at k name 0 j h ∙ same j h in
+      record {
+        whole = l .whole;
+        within = omega arith;
+        first = rw (add-one, l .first, none, e, copy) (sym (fault-alike n k (names (tabulate k name)) (node k cells c) read));
+      }
+
+  -- the first fault of all: one that was found, or the one held behind the last cell
+  pub looked-found : {c f : ℕ} → Looked n k cells m c f → (f ≡ 0 → ⊥) → f ≡ firstFault n k cells
+  looked-found {c} {f} l some = sym (first-stays n k cells c (length cells / k) f (omega (arith, l .whole, l .within)) some (l .first))
+
+  pub looked-all : {c f : ℕ} → Looked n k cells m c f → m ≤ c → f ≡ firstFault n k cells
+  looked-all {c} {f} l last = let all : c ≡ length cells / k = omega (arith, l .whole, l .within) in sym (rw all at (l .first))
 
 pub faultless-is-sound : FaultlessIsSound
 unfolding faultAt

@@ -75,18 +75,21 @@ passed-accepted s p =
       eq-eqb (faultOf s) 0 (p .faultless),
     )
 
--- the ladder behind the first rung, over what the head says
+-- the ladder behind the first rung, over what the head says, from its last rungs up
 abbrev pub faultBy : List ℕ → ℕ → ℕ → ℕ
 faultBy s n c = firstFault n 8 (numbersAt s 4 (13 + 24 * n) (8 * c))
 
+abbrev pub byFault : List ℕ → ℕ → ℕ → Answer (List ℕ)
+byFault s n c = cond (not (eqb (faultBy s n c) 0)) (refused (faultBy s n c)) (answered (n ∷ c ∷ []))
+
+abbrev pub byLength : List ℕ → ℕ → ℕ → Answer (List ℕ)
+byLength s n c = cond (not (eqb (length s) (13 + 24 * n + 32 * c))) (refused 13) (byFault s n c)
+
+abbrev pub byLimits : List ℕ → ℕ → ℕ → Answer (List ℕ)
+byLimits s n c = cond (ltb 1024 n || ltb 128 c) (refused 7) (byLength s n c)
+
 abbrev pub rungs : List ℕ → Bool → ℕ → ℕ → ℕ → Answer (List ℕ)
-rungs s mark v n c =
-    cond (not mark) (refused 11)
-    (cond (not (eqb v 1)) (refused 12)
-    (cond (ltb 1024 n || ltb 128 c) (refused 7)
-    (cond (not (eqb (length s) (13 + 24 * n + 32 * c))) (refused 13)
-    (cond (not (eqb (faultBy s n c) 0)) (refused (faultBy s n c))
-    (answered (n ∷ c ∷ []))))))
+rungs s mark v n c = cond (not mark) (refused 11) (cond (not (eqb v 1)) (refused 12) (byLimits s n c))
 
 cond-counts : (test : Bool) (k : ℕ) (rest : Answer Mesh) → counts (cond test (refused k) rest) ≡ cond test (refused k) (counts rest)
 cond-counts true k rest = refl
@@ -130,17 +133,18 @@ module _ (coords corners : ℕ) (s : List ℕ) where
   into-refused k e = rw e
 
   module _ (n c : ℕ) (file : Counted s n c) where
-    pub into-short-nodes : coords < 3 * n → meshInto coords corners s ≡ refused 8
+    by-room : meshInto coords corners s ≡ cond (ltb coords (3 * n) || ltb corners (8 * c)) (refused 8) (answered (meshAt s))
     unfolding meshInto meshAt
-    into-short-nodes short = rw (passed-accepted s (file .passed), file .nodes, lt-ltb coords (3 * n) short)
+    by-room = rw (passed-accepted s (file .passed), file .nodes, file .cells)
+
+    pub into-short-nodes : coords < 3 * n → meshInto coords corners s ≡ refused 8
+    into-short-nodes short = rw (by-room, lt-ltb coords (3 * n) short)
 
     pub into-short-cells : 3 * n ≤ coords → corners < 8 * c → meshInto coords corners s ≡ refused 8
-    unfolding meshInto meshAt
-    into-short-cells room short = rw (passed-accepted s (file .passed), file .nodes, file .cells, le-ltb coords (3 * n) room, lt-ltb corners (8 * c) short)
+    into-short-cells room short = rw (by-room, le-ltb coords (3 * n) room, lt-ltb corners (8 * c) short)
 
     into-answered : 3 * n ≤ coords → 8 * c ≤ corners → meshInto coords corners s ≡ answered (meshAt s)
-    unfolding meshInto meshAt
-    into-answered room space = rw (passed-accepted s (file .passed), file .nodes, file .cells, le-ltb coords (3 * n) room, le-ltb corners (8 * c) space)
+    into-answered room space = rw (by-room, le-ltb coords (3 * n) room, le-ltb corners (8 * c) space)
 
     pub written : (nodes nodes′ cells cells′ : List ℕ) → 3 * n ≤ coords → 8 * c ≤ corners
         → nodes′ ≡ numbersAt s 8 13 (3 * n) ++ drop (3 * n) nodes
@@ -165,22 +169,22 @@ enough-room coords corners s room space = by (meshOf s) refl
     by (answered m) is =
         let file = accepted-passed s m is in
         let counts : Counted s (nodeCount s) (cellCount s) = record { passed = file .0; nodes = refl; cells = refl } in
-        into-answered coords corners s (nodeCount s) (cellCount s) counts (omega (arith, file .0 .nodesFew)) (omega (arith, file .0 .cellsFew)) ∙ ap answered (file .1)
+        into-answered coords corners s _ _ counts (omega (arith, file .0 .nodesFew)) (omega (arith, file .0 .cellsFew)) ∙ ap answered (file .1)
 
 -- a mesh that is read into such lists: what its counts say of the file, and the corners at the head of the list of cells
-module _ (coords corners : ℕ) (s : List ℕ) (n c : ℕ) (nodes nodes′ cells cells′ : List ℕ) (room : 3072 ≤ coords) (space : 1024 ≤ corners)
-    (r : Reads (meshInto coords corners s) (Counts n c) nodes nodes′ cells cells′) where
-  pub read-counted : Counted s n c
-  read-counted = counted s n c (r .answer ∙ ap counts (enough-room coords corners s room space))
+pub record Found (s : List ℕ) (n c : ℕ) (cells : List ℕ) : Type 0 where
+  pub file : Counted s n c
+  pub corners : take (8 * c) cells ≡ meshAt s .corners
+  pub long : length (take (8 * c) cells) ≡ 8 * c
 
-  whole : length (meshAt s .corners) ≡ 8 * c
-  unfolding meshAt
-  whole = length-tabulate (8 * cellCount s) (λ (i : ℕ). numberAt s 4 (cellsFrom s + 4 * i)) ∙ ap (λ (k : ℕ). 8 * k) (read-counted .cells)
-
-  pub read-corners : take (8 * c) cells′ ≡ meshAt s .corners
-  read-corners =
-      let found : meshInto coords corners s ≡ answered (meshAt s) = enough-room coords corners s room space ∙ passed-accepted s (read-counted .passed) in
-      ap (take (8 * c)) (rw found at (r .cellsLeft)) ∙ take-at (meshAt s .corners) _ (8 * c) whole
-
-  pub read-long : length (take (8 * c) cells′) ≡ 8 * c
-  read-long = ap length read-corners ∙ whole
+pub read-found : (coords corners : ℕ) (s : List ℕ) (n c : ℕ) (nodes nodes′ cells cells′ : List ℕ) → 3072 ≤ coords → 1024 ≤ corners
+    → Reads (meshInto coords corners s) (Counts n c) nodes nodes′ cells cells′ → Found s n c cells′
+unfolding meshAt
+read-found coords corners s n c nodes nodes′ cells cells′ room space r =
+    let enough = enough-room coords corners s room space in
+    let file : Counted s n c = counted s n c (r .answer ∙ ap counts enough) in
+    let corner : ℕ → ℕ = λ i. numberAt s 4 (cellsFrom s + 4 * i) in
+    let whole : length (meshAt s .corners) ≡ 8 * c = length-tabulate (8 * cellCount s) corner ∙ ap (λ (k : ℕ). 8 * k) (file .cells) in
+    let found : meshInto coords corners s ≡ answered (meshAt s) = enough ∙ passed-accepted s (file .passed) in
+    let head : take (8 * c) cells′ ≡ meshAt s .corners = ap (take (8 * c)) (rw found at (r .cellsLeft)) ∙ take-at (meshAt s .corners) _ (8 * c) whole in
+    record { file = file; corners = head; long = ap length head ∙ whole }

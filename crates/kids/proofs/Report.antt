@@ -1,10 +1,10 @@
 -- What is reported of a refinement's answer and output, and that a part of a long file is enough. Assumes nothing.
 use Prim.Native.Nat.{ℕ, zero, suc, _+_, _*_, _≤_, _<_}
-use native.Mathlib.Nat.{mul-le-mul-left}
 use native.Mathlib.Omega.{arith}
 use mathlib.Core.Path.{_≡_, refl, sym, _∙_, ap, ap₂}
 use mathlib.Core.List.{List, [], _∷_, _++_}
 use lib.ListN.{length, getD, drop, List·getD-append}
+use Rattle.numbers.proofs.Slots.{row-within}
 use Rattle.answer.specs.Answer.{Answer, answered, refused, left}
 use Rattle.hxm.specs.Format.{nodeCount, meshAt, meshOf}
 use Rattle.hxm.proofs.Ladder.{Counted, passed-accepted}
@@ -24,7 +24,7 @@ joined-alike (suc n) f g e = ap₂ (λ (x y : List ℕ). x ++ y) (joined-alike n
 module _ (w n : ℕ) (numbers rest : List ℕ) (whole : w * n ≤ length numbers) where
   field-head : (i j : ℕ) → i < n → j < w → field w (numbers ++ rest) (w * i) j ≡ field w numbers (w * i) j
   field-head i j h l =
-      let inside : w * i + j < length numbers = omega (arith, mul-le-mul-left w h) in
+      let inside : w * i + j < length numbers = omega (arith, row-within w i n h) in
       ap (λ (x : ℕ). decimal x ++ (behind j w ∷ [])) (List·getD-append numbers rest 0 (w * i + j) inside)
 
   table-head : table w (numbers ++ rest) n ≡ table w numbers n
@@ -46,7 +46,7 @@ module _ (n : ℕ) (cells : List ℕ) where
       let rest = drop (length kids) old in
       let output : out ≡ kids ++ rest = rw is at w in
       let answer : refined n cells 8192 ≡ answered next = sym e ∙ is in
-      let lines : table 8 (kids ++ rest) (8 * cellCount cells) ≡ table 8 kids (8 * cellCount cells) = table-head 8 (8 * cellCount cells) kids rest (omega (arith, kids-long)) in
+      let lines = table-head 8 (8 * cellCount cells) kids rest (omega (arith, kids-long)) in
       rw (answer, output) (ap (λ (t : List ℕ). headLine (cellCount cells) next ++ t) lines)
 
   pub refused-kids : (k : ℕ) (a : Answer ℕ) → a ≡ refused k → a ≡ refined n cells 8192 → refusedLine k ≡ shown (kidsOf n cells)

@@ -1,16 +1,15 @@
--- Little-endian numbers: read and written, they undo each other at every width; and a number read in two parts. Assumes nothing.
+-- Little-endian numbers: read and written, they undo each other at every width; and a number read in halves. Assumes nothing.
 use Prim.Native.Nat.{ℕ, zero, suc, _+_, _*_, _/_, _%_, _^_, _<_, _≤_}
 use native.Mathlib.Nat.{pow-succ', mul-assoc, add-zero, le-of-suc-le-suc, not-suc-le-zero, mul-le-mul-left}
 use native.Mathlib.Omega.{arith}
 use mathlib.Core.Path.{_≡_, refl, sym, _∙_, ap, ap₂}
 use mathlib.Core.List.{List, [], _∷_, _++_, append-assoc}
 use lib.Dec.{lit<}
-use lib.ListN.{length, getD, set, take, drop, length-append, length-drop}
+use lib.ListN.{length, getD, take, drop, length-append, length-drop}
 use lib.Seq.{length-take-le, drop-cons, drop-drop, take-add, take-at, drop-at, getD-take, getD-drop}
 use Rattle.numbers.specs.Rule.{tabulate}
 use Rattle.numbers.specs.Little.{little, numberAt, numbersAt, bytes, allBytes, Below, LittleEndian}
 use Rattle.numbers.proofs.Prefix.{tabulate-where}
-use Rattle.numbers.proofs.Stored.{stored-more}
 
 little-append : (xs ys : List ℕ) → little (xs ++ ys) ≡ little xs + 256 ^ length xs * little ys
 unfolding little
@@ -20,11 +19,19 @@ little-append (x ∷ xs) ys = rw (pow-succ' 256 (length xs), mul-assoc 256 (256 
 part-length : (s : List ℕ) (w at : ℕ) → at + w ≤ length s → length (take w (drop at s)) ≡ w
 part-length s w at h = length-take-le w (drop at s) (rw length-drop (omega arith))
 
--- a number of a + b bytes is that of the first a and, 256 ^ a times, that of the others
-pub number-split : (s : List ℕ) (a b at : ℕ) → at + a ≤ length s → numberAt s (a + b) at ≡ numberAt s a at + 256 ^ a * numberAt s b (at + a)
+-- two numbers of w bytes each, one behind the other, make one of twice as many
+pub number-halves : (s : List ℕ) (w at low high : ℕ) → at + w ≤ length s → low ≡ numberAt s w at → high ≡ numberAt s w (at + w)
+    → low + 256 ^ w * high ≡ numberAt s (w + w) at
 unfolding numberAt
-number-split s a b at h =
-    rw (take-add a b (drop at s), drop-drop a at s, little-append (take a (drop at s)) (take b (drop (at + a) s)), part-length s a at h)
+number-halves s w at low high fits el eh =
+    rw (
+      el,
+      eh,
+      take-add w w (drop at s),
+      drop-drop w at s,
+      little-append (take w (drop at s)) (take w (drop (at + w) s)),
+      part-length s w at fits,
+    )
 
 pub number-byte : (s : List ℕ) (at : ℕ) → at < length s → numberAt s 1 at ≡ getD s at 0
 unfolding numberAt little
@@ -130,12 +137,6 @@ all-bytes-back w at (suc n) s h fits =
     in
     let whole : w * suc n ≡ w + w * n = omega arith in
     rw (first, rest, whole, take-add w (w * n) (drop at s), drop-drop w at s)
-
--- a list at whose head i numbers were written, and one more
-pub numbers-more : (s : List ℕ) (w at i r : ℕ) (old out : List ℕ) → i < length old → out ≡ numbersAt s w at i ++ drop i old → r ≡ numberAt s w (at + w * i)
-    → set out i r ≡ numbersAt s w at (i + 1) ++ drop (i + 1) old
-numbers-more s w at i r old out inside e f =
-    ap₂ (λ (l : List ℕ) (x : ℕ). set l i x) e f ∙ stored-more (λ (j : ℕ). numberAt s w (at + w * j)) old i 0 inside
 
 pub little-endian : LittleEndian
 little-endian = record { numberBack = number-back; numbersBack = numbers-back; bytesBack = all-bytes-back }

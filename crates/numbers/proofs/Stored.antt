@@ -1,10 +1,10 @@
 -- Lists by rule, longer by one, and what a loop leaves that stores f i at i. Assumes nothing.
-use Prim.Native.Nat.{ℕ, zero, suc, _+_, _<_}
+use Prim.Native.Nat.{ℕ, zero, suc, _+_, _≤_, _<_}
 use native.Mathlib.Numerals.{add-one}
 use native.Mathlib.Omega.{arith}
-use mathlib.Core.Path.{_≡_, refl, sym, _∙_, ap}
+use mathlib.Core.Path.{_≡_, refl, sym, _∙_, ap, ap₂}
 use mathlib.Core.List.{List, [], _∷_, _++_, append-assoc}
-use lib.ListN.{length, getD, take, drop, set, length-append, length-take}
+use lib.ListN.{length, getD, take, drop, set, length-append, length-take, length-set}
 use lib.Seq.{drop-cons, set-at, append-snoc}
 use Rattle.numbers.specs.Rule.{tabulate}
 
@@ -36,3 +36,24 @@ module _ {ℓ} {A : Type ℓ} where
       ∙ append-assoc (take m old) (tabulate i f) (f i ∷ drop (suc (m + i)) old)
       ∙ ap (λ (xs : List A). take m old ++ xs)
       (sym (ap (λ (xs : List A). xs ++ drop (suc (m + i)) old) (tabulate-more i f) ∙ append-snoc (tabulate i f) (f i) (drop (suc (m + i)) old))))
+
+-- what a loop holds that stores f i at i for each i below n, once it has stored i of them
+pub record Stores {ℓ} {A : Type ℓ} (f : ℕ → A) (n : ℕ) (old out : List A) (i : ℕ) : Type ℓ where
+  pub within : i ≤ n
+  pub keeps : length out ≡ length old
+  pub stored : out ≡ tabulate i f ++ drop i old
+
+module _ {ℓ} {A : Type ℓ} {f : ℕ → A} {n : ℕ} {old : List A} where
+  pub stores-none : Stores f n old old 0
+  stores-none = record { within = omega arith; keeps = refl; stored = refl }
+
+  pub stores-more : {out : List A} {i : ℕ} (x : A) → Stores f n old out i → i < n → n ≤ length old → x ≡ f i → Stores f n old (set out i x) (i + 1)
+  stores-more {out} {i} x s below room e =
+      record {
+        within = omega arith;
+        keeps = length-set out i x ∙ s .keeps;
+        stored = ap₂ (λ (l : List A) (y : A). set l i y) (s .stored) e ∙ stored-more f old i x (omega arith);
+      }
+
+  pub stores-all : {out : List A} {i : ℕ} → Stores f n old out i → n ≤ i → out ≡ tabulate n f ++ drop n old
+  stores-all {out} {i} s last = let all : i ≡ n = omega (arith, s .within) in rw all at (s .stored)

@@ -14,17 +14,14 @@ Inv-loop fd buf₀ size₀ buf size = (size ≤ length buf) × (length buf ≡ l
 abbrev μ-loop : tie.MeasureT-loop
 μ-loop fd buf₀ size₀ buf size = length buf - size
 
-add-size : tie.Need-add-size Inv-loop μ-loop
-add-size c =
-    let within = rw (c .before .before .more .given .1) at (c .before .before .before .before .before .before .read-some .ensures) in
-    let room = simp (length-take, length-drop) at (c .before .before .before .before .before .buf .given) in
-    omega arith
-
 loop-again : tie.Need-loop-again Inv-loop μ-loop
 loop-again c =
     let within = rw (c .before .before .more .given .1) at (c .before .before .before .before .before .before .read-some .ensures) in
     let room = simp (length-take, length-drop) at (c .before .before .before .before .before .buf .given) in
     search needs
+
+add-size : tie.Need-add-size Inv-loop μ-loop
+add-size c = let within = loop-again c in omega arith
 
 pub read-all-spec : {M : Type 1} → statement M
 read-all-spec =

@@ -8,7 +8,7 @@ use borrow.Author.Needs.{needs}
 use borrow.Author.Tests.{lt-ltb, le-ltb, eq-eqb, ne-eqb}
 use Rattle.hxm.specs.Format.{meshOf}
 use Rattle.hxm.specs.Reads.{counts}
-use Rattle.hxm.proofs.Ladder.{rungs, climbed}
+use Rattle.hxm.proofs.Ladder.{byFault, byLength, byLimits, rungs, climbed}
 use Rattle.hxm.proofs.judge.Statement.{statement}
 use Rattle.hxm.proofs.judge.Tie as tie
 
@@ -43,58 +43,36 @@ returns-2 c = rw (head (c .before), c .if2 .taken)
 returns-3 : tie.Need-returns-3
 returns-3 c = simp (head (c .before .before), c .before .if2 .left, ne-eqb (version-read (c .before .before)) 1 (λ e. omega arith))
 
+-- behind the version, behind the limits, and behind the length
+versioned : (c : tie.Else3) → let h = c .before .before in counts (meshOf (file h)) ≡ byLimits (file h) (h .before .u32-at .result) (h .u32-at2 .result)
+versioned c = simp (head (c .before .before), c .before .if2 .left, eq-eqb (version-read (c .before .before)) 1 (omega arith))
+
 returns-4 : tie.Need-returns-4
-returns-4 c =
-    let mark = c .before .before in
-    simp (head (mark .before), mark .if2 .left, eq-eqb (version-read (mark .before)) 1 (omega arith), lt-ltb _ _ (c .if4 .taken))
+returns-4 c = simp (versioned (c .before), lt-ltb _ _ (c .if4 .taken))
 
 returns-5 : tie.Need-returns-5
-returns-5 c =
-    let mark = c .before .before .before in
-    simp (head (mark .before), mark .if2 .left, eq-eqb (version-read (mark .before)) 1 (omega arith), le-ltb _ _ (c .before .if4 .left), lt-ltb _ _ (c .if5 .taken))
+returns-5 c = simp (versioned (c .before .before), le-ltb _ _ (c .before .if4 .left), lt-ltb _ _ (c .if5 .taken))
+
+limited : (c : tie.Else5)
+    → let h = c .before .before .before .before in counts (meshOf (file h)) ≡ byLength (file h) (h .before .u32-at .result) (h .u32-at2 .result)
+limited c = simp (versioned (c .before .before), le-ltb _ _ (c .before .if4 .left), le-ltb _ _ (c .if5 .left))
 
 returns-6 : tie.Need-returns-6
 returns-6 c =
-    let few = c .before in
-    let mark = few .before .before .before in
-    simp (
-      head (mark .before),
-      mark .if2 .left,
-      eq-eqb (version-read (mark .before)) 1 (omega arith),
-      le-ltb _ _ (few .before .if4 .left),
-      le-ltb _ _ (few .if5 .left),
-      ne-eqb (length (file (mark .before))) (last (mark .before)) (λ e. omega arith),
-    )
+    let h = c .before .before .before .before .before in
+    simp (limited (c .before), ne-eqb (length (file h)) (last h) (λ e. omega arith))
+
+whole : (c : tie.Else6)
+    → let h = c .before .before .before .before .before in counts (meshOf (file h)) ≡ byFault (file h) (h .before .u32-at .result) (h .u32-at2 .result)
+whole c =
+    let h = c .before .before .before .before .before in
+    simp (limited (c .before), eq-eqb (length (file h)) (last h) (omega arith))
 
 returns-7 : tie.Need-returns-7
-returns-7 c =
-    let few = c .before .before .before in
-    let mark = few .before .before .before in
-    simp (
-      head (mark .before),
-      mark .if2 .left,
-      eq-eqb (version-read (mark .before)) 1 (omega arith),
-      le-ltb _ _ (few .before .if4 .left),
-      le-ltb _ _ (few .if5 .left),
-      eq-eqb (length (file (mark .before))) (last (mark .before)) (omega arith),
-      ← c .before .fault-at .ensures,
-      ne-eqb _ _ (c .if7 .taken),
-    )
+returns-7 c = simp (whole (c .before .before), ← c .before .fault-at .ensures, ne-eqb _ _ (c .if7 .taken))
 
 returns-8 : tie.Need-returns-8
-returns-8 c =
-    let few = c .before .before .before in
-    let mark = few .before .before .before in
-    simp (
-      head (mark .before),
-      mark .if2 .left,
-      eq-eqb (version-read (mark .before)) 1 (omega arith),
-      le-ltb _ _ (few .before .if4 .left),
-      le-ltb _ _ (few .if5 .left),
-      eq-eqb (length (file (mark .before))) (last (mark .before)) (omega arith),
-      ← c .before .fault-at .ensures,
-      eq-eqb _ _ (c .if7 .left),
-    )
+returns-8 c = simp (whole (c .before .before), ← c .before .fault-at .ensures, eq-eqb _ _ (c .if7 .left))
 
 pub judge-spec : {M : Type 1} → statement M
 judge-spec =

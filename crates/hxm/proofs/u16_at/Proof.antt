@@ -1,8 +1,9 @@
 -- `hxm::u16_at` meets its contract: two numbers of a byte each. Assumes nothing.
 use Prim.Native.Nat.{_+_}
 use native.Mathlib.Omega.{arith}
+use mathlib.Core.Path.{sym, _∙_}
 use borrow.Author.Needs.{needs}
-use Rattle.numbers.proofs.Little.{number-split, number-byte}
+use Rattle.numbers.proofs.Little.{number-halves, number-byte}
 use Rattle.hxm.proofs.u16_at.Statement.{statement}
 use Rattle.hxm.proofs.u16_at.Tie as tie
 
@@ -10,13 +11,9 @@ returns : tie.Need-returns
 returns c =
     let args = c .before .before .before .before .before .args in
     let s = args .bytes .now in
-    rw (
-      number-split s 1 1 (args .at) (omega arith),
-      number-byte s (args .at) (omega arith),
-      number-byte s (args .at + 1) (omega arith),
-      c .wide2 .ensures .0,
-      c .before .before .wide .ensures .0,
-    )
+    number-halves s 1 (args .at) _ _ (omega arith)
+    (c .before .before .wide .ensures .0 ∙ sym (number-byte s (args .at) (omega arith)))
+    (c .wide2 .ensures .0 ∙ sym (number-byte s (args .at + 1) (omega arith)))
 
 pub u16-at-spec : {M : Type 1} → statement M
 u16-at-spec =

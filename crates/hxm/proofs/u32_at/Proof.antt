@@ -1,14 +1,14 @@
 -- `hxm::u32_at` meets its contract: two numbers of two bytes each. Assumes nothing.
 use native.Mathlib.Omega.{arith}
 use borrow.Author.Needs.{needs}
-use Rattle.numbers.proofs.Little.{number-split}
+use Rattle.numbers.proofs.Little.{number-halves}
 use Rattle.hxm.proofs.u32_at.Statement.{statement}
 use Rattle.hxm.proofs.u32_at.Tie as tie
 
 returns : tie.Need-returns
 returns c =
     let args = c .before .before .before .args in
-    rw (number-split (args .bytes .now) 2 2 (args .at) (omega arith), c .u16-at2 .ensures, c .before .u16-at .ensures)
+    number-halves (args .bytes .now) 2 (args .at) _ _ (omega arith) (c .before .u16-at .ensures) (c .u16-at2 .ensures)
 
 pub u32-at-spec : {M : Type 1} → statement M
 u32-at-spec =

@@ -1,14 +1,14 @@
 -- `hxm::u64_at` meets its contract: two numbers of four bytes each. Assumes nothing.
 use native.Mathlib.Omega.{arith}
 use borrow.Author.Needs.{needs}
-use Rattle.numbers.proofs.Little.{number-split}
+use Rattle.numbers.proofs.Little.{number-halves}
 use Rattle.hxm.proofs.u64_at.Statement.{statement}
 use Rattle.hxm.proofs.u64_at.Tie as tie
 
 returns : tie.Need-returns
 returns c =
     let args = c .before .before .before .args in
-    rw (number-split (args .bytes .now) 4 4 (args .at) (omega arith), c .u32-at2 .ensures, c .before .u32-at .ensures)
+    number-halves (args .bytes .now) 4 (args .at) _ _ (omega arith) (c .before .u32-at .ensures) (c .u32-at2 .ensures)
 
 pub u64-at-spec : {M : Type 1} → statement M
 u64-at-spec =

@@ -58,7 +58,8 @@ module _ (t : ℕ) where
       let text : decimalIn (start .args .k - 1) (start .args .x / 10) ++ (digit .digit2 .result ∷ []) ≡ decimalIn (start .args .k) (start .args .x) =
       rw (digit .digit2 .ensures) (sym (decimal-more (start .args .k) (start .args .x) (start .pre .1 .0) (omega arith)))
       in
-      (rw text at (wrote-then _ _ _ _ _ _ _ _ (put .put-digits .ensures .0) (last .put-byte2 .ensures)), omega (arith, put .put-digits .ensures .1, last .put-byte2 .ensures .ends))
+      let written = wrote-then (put .put-digits .ensures .0) (last .put-byte2 .ensures) in
+      (rw text at written, omega (arith, put .put-digits .ensures .1, last .put-byte2 .ensures .ends))
 
 pub +put-digits-spec : {M : Type 1} → statement M
 +put-digits-spec =

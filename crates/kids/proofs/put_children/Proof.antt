@@ -14,7 +14,7 @@ returns c =
     let refined = next .before .before .before in
     let args = refined .before .before .before .before .args in
     let text = reported (args .n) (args .cells .now) _ _ _ _ (ap told (next .next .given .1)) (refined .refine .ensures .0) (refined .refine .ensures .1) in
-    wrote-as _ _ _ _ _ _ text (put .put-report .ensures)
+    wrote-as text (put .put-report .ensures)
 
 returns-2 : tie.Need-returns-2
 returns-2 c =
@@ -23,7 +23,7 @@ returns-2 c =
     let refined = k .before .before .before in
     let args = refined .before .before .before .before .args in
     let text = refused-kids (args .n) (args .cells .now) _ _ (ap told (k .k .given .1)) (refined .refine .ensures .0) in
-    wrote-as _ _ _ _ _ _ text (put .put-refused .ensures)
+    wrote-as text (put .put-refused .ensures)
 
 pub put-children-spec : {M : Type 1} → statement M
 put-children-spec =

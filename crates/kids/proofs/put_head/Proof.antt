@@ -12,9 +12,9 @@ returns c =
     let nodes-word = nodes .before .before .before .before in
     let count = nodes-word .before .before .before .before .before in
     let cells-word = count .before .before .before .before in
-    let last = wrote-then _ _ _ _ _ _ _ _ (nodes .put-decimal2 .ensures .0) (end .put-byte .ensures) in
-    let second = wrote-then _ _ _ _ _ _ _ _ (count .put-decimal .ensures .0) (wrote-then _ _ _ _ _ _ _ _ (nodes-word .put-text2 .ensures) last) in (
-      wrote-then _ _ _ _ _ _ _ _ (cells-word .put-text .ensures) second,
+    let last = wrote-then (nodes .put-decimal2 .ensures .0) (end .put-byte .ensures) in
+    let second = wrote-then (count .put-decimal .ensures .0) (wrote-then (nodes-word .put-text2 .ensures) last) in (
+      wrote-then (cells-word .put-text .ensures) second,
       omega (
         arith,
         cells-word .put-text .ensures .ends,

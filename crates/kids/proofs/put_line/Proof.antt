@@ -1,16 +1,14 @@
 -- `kids::put_line` meets its contract: the first j numbers are written, each with what stands behind it. Assumes nothing.
-use Prim.Native.Nat.{_+_, _*_, _-_, _≤_}
+use Prim.Native.Nat.{_-_}
 use native.Mathlib.Omega.{arith}
-use mathlib.Core.Path.{_≡_}
-use mathlib.Core.List.{append-assoc}
 use borrow.Author.Needs.{needs}
-use Rattle.kids.specs.Text.{field, joined, Wrote}
-use Rattle.kids.proofs.Writing.{wrote-none, wrote-then, joined-none, joined-more}
+use Rattle.kids.specs.Text.{field}
+use Rattle.kids.proofs.Writing.{wrote-then, Writes, writes-none, writes-more, writes-all}
 use Rattle.kids.proofs.put_line.Statement.{statement}
 use Rattle.kids.proofs.put_line.Tie as tie
 
 abbrev Inv-loop : tie.InvT-loop
-Inv-loop out₀ at numbers from w end₀ j₀ out end j = (j ≤ w) × Wrote out₀ out at end (joined j (field w numbers from)) × (end ≤ at + 11 * j)
+Inv-loop out₀ at numbers from w end₀ j₀ out end j = Writes (field w numbers from) 11 w out₀ out at end j
 
 abbrev μ-loop : tie.MeasureT-loop
 μ-loop out₀ at numbers from w end₀ j₀ out end j = w - j
@@ -19,7 +17,7 @@ put-byte-requires : tie.Need-put-byte-requires Inv-loop μ-loop
 put-byte-requires c κs =
     let put = c .before .before .before .before in
     let turn = put .before .before .before .before in
-    omega (arith, turn .loop .inv, turn .loop .inv .1 .keeps, put .put-decimal .ensures .0 .keeps, put .put-decimal .ensures .1)
+    omega (arith, turn .loop .inv, turn .loop .inv .wrote .keeps, put .put-decimal .ensures .0 .keeps, put .put-decimal .ensures .1)
 
 loop-again : tie.Need-loop-again Inv-loop μ-loop
 loop-again c =
@@ -27,18 +25,8 @@ loop-again c =
     let sign = last .before in
     let put = sign .before .before .before .before in
     let turn = put .before .before .before .before in
-    let args = turn .before .before .before .args in
-    let number = wrote-then _ (turn .loop .out) _ _ _ _ _ _ (turn .loop .inv .1) (put .put-decimal .ensures .0) in
-    let text = wrote-then _ _ _ _ _ _ _ _ number (rw (sign .behind .ensures) at (last .put-byte .ensures)) in (
-      omega arith,
-      rw (joined-more, ← append-assoc) text,
-      omega (arith, put .put-decimal .ensures .1, last .put-byte .ensures .ends),
-    )
-
-returns : tie.Need-returns Inv-loop μ-loop
-returns c =
-    let full : c .before .loop .j ≡ c .before .before .before .before .args .w = omega arith in
-    (rw full at (c .before .loop .inv .1), omega arith)
+    let text = wrote-then (put .put-decimal .ensures .0) (rw (sign .behind .ensures) at (last .put-byte .ensures)) in
+    writes-more (turn .loop .inv) (omega arith) text (omega (arith, put .put-decimal .ensures .1, last .put-byte .ensures .ends))
 
 pub put-line-spec : {M : Type 1} → statement M
 put-line-spec =
@@ -46,15 +34,15 @@ put-line-spec =
     (tie.spec
     Inv-loop
     μ-loop
-    (λ c. (omega arith, rw joined-none (wrote-none _ _), omega arith))
+    (λ c. writes-none)
     (λ c. search needs)
     (λ c. search needs)
     (λ c. search needs)
-    (λ c κs. omega (arith, c .before .before .before .loop .inv .1 .keeps))
+    (λ c κs. omega (arith, c .before .before .before .loop .inv .wrote .keeps))
     (λ c κs. search needs)
     put-byte-requires
     (λ c. search needs)
     (λ c. search needs)
     loop-again
-    (λ c. c .before .loop .inv .1 .keeps)
-    returns)
+    (λ c. c .before .loop .inv .wrote .keeps)
+    (λ c. writes-all (c .before .loop .inv) (omega arith)))

@@ -9,7 +9,7 @@ returns c =
     let end = c .before .before in
     let number = end .before .before .before .before in
     let word = number .before .before .before .before in
-    wrote-then _ _ _ _ _ _ _ _ (word .put-text .ensures) (wrote-then _ _ _ _ _ _ _ _ (number .put-decimal .ensures .0) (end .put-byte .ensures))
+    wrote-then (word .put-text .ensures) (wrote-then (number .put-decimal .ensures .0) (end .put-byte .ensures))
 
 pub put-refused-spec : {M : Type 1} → statement M
 put-refused-spec =

@@ -8,7 +8,7 @@ returns : tie.Need-returns
 returns c =
     let table = c .before .before in
     let head = table .before .before .before .before in
-    wrote-then _ _ _ _ _ _ _ _ (head .put-head .ensures .0) (table .put-table .ensures)
+    wrote-then (head .put-head .ensures .0) (table .put-table .ensures)
 
 pub put-report-spec : {M : Type 1} → statement M
 put-report-spec =

@@ -1,50 +1,36 @@
 -- `kids::put_table` meets its contract: the first i lines are written. Assumes nothing.
-use Prim.Native.Nat.{ℕ, _+_, _*_, _-_, _≤_, _<_}
-use native.Mathlib.Nat.{mul-le-mul-left}
+use Prim.Native.Nat.{ℕ, _*_, _-_}
 use native.Mathlib.Omega.{arith}
-use mathlib.Core.Path.{_≡_}
 use borrow.Author.Needs.{needs}
-use Rattle.kids.specs.Text.{line, joined, table, Wrote}
-use Rattle.kids.proofs.Writing.{wrote-none, wrote-then, joined-none, joined-more}
+use Rattle.numbers.proofs.Slots.{row-within}
+use Rattle.kids.specs.Text.{line}
+use Rattle.kids.proofs.Writing.{Writes, writes-none, writes-more, writes-all}
 use Rattle.kids.proofs.put_table.Statement.{statement}
 use Rattle.kids.proofs.put_table.Tie as tie
 
 abbrev Inv-loop : tie.InvT-loop
-Inv-loop out₀ at numbers w n end₀ i₀ out end i = (i ≤ n) × Wrote out₀ out at end (table w numbers i) × (end ≤ at + 11 * (w * i))
+Inv-loop out₀ at numbers w n end₀ i₀ out end i = Writes (λ (k : ℕ). line w numbers (w * k)) (11 * w) n out₀ out at end i
 
 abbrev μ-loop : tie.MeasureT-loop
 μ-loop out₀ at numbers w n end₀ i₀ out end i = n - i
 
--- one line more fits where n lines do
-line-fits : (w i n : ℕ) → i < n → w * i + w ≤ w * n
-line-fits w i n h = omega (arith, mul-le-mul-left w h)
-
 loop-again : tie.Need-loop-again Inv-loop μ-loop
 loop-again c =
     let put = c .before .before in
-    let turn = put .before .before .before in (
-      omega arith,
-      rw joined-more (wrote-then _ (turn .loop .out) _ _ _ _ _ _ (turn .loop .inv .1) (put .put-line .ensures .0)),
-      omega (arith, put .put-line .ensures .1),
-    )
-
-returns : tie.Need-returns Inv-loop μ-loop
-returns c =
-    let full : c .before .loop .i ≡ c .before .before .before .before .args .n = omega arith in
-    rw full at (c .before .loop .inv .1)
+    writes-more (put .before .before .before .loop .inv) (omega arith) (put .put-line .ensures .0) (put .put-line .ensures .1)
 
 mul-put-line : tie.Need-mul-put-line Inv-loop μ-loop
 mul-put-line c =
     let turn = c .before .before in
     let args = turn .before .before .before .args in
-    omega (arith, line-fits (args .w) (turn .loop .i) (args .n) (omega arith))
+    omega (arith, row-within (args .w) (turn .loop .i) (args .n) (omega arith))
 
 put-line-requires : tie.Need-put-line-requires Inv-loop μ-loop
 put-line-requires c κs =
     let turn = c .before .before in
     let args = turn .before .before .before .args in
-    let fits = line-fits (args .w) (turn .loop .i) (args .n) (omega arith) in
-    (omega arith, omega (arith, turn .loop .inv .1 .keeps))
+    let fits = row-within (args .w) (turn .loop .i) (args .n) (omega arith) in
+    (omega arith, omega (arith, turn .loop .inv .wrote .keeps))
 
 pub put-table-spec : {M : Type 1} → statement M
 put-table-spec =
@@ -52,11 +38,11 @@ put-table-spec =
     (tie.spec
     Inv-loop
     μ-loop
-    (λ c. (omega arith, rw joined-none (wrote-none _ _), omega arith))
+    (λ c. writes-none)
     mul-put-line
     put-line-requires
     (λ c. search needs)
     (λ c. search needs)
     loop-again
-    (λ c. c .before .loop .inv .1 .keeps)
-    returns)
+    (λ c. c .before .loop .inv .wrote .keeps)
+    (λ c. writes-all (c .before .loop .inv) (omega arith) .0))

@@ -1,19 +1,18 @@
 -- `kids::put_text` meets its contract: the first i bytes are written. Assumes nothing.
-use Prim.Native.Nat.{_+_, _-_, _≤_}
-use native.Mathlib.Numerals.{add-one}
+use Prim.Native.Nat.{ℕ, _-_}
+use native.Mathlib.Nat.{le-refl}
 use native.Mathlib.Omega.{arith}
-use mathlib.Core.Path.{_≡_}
-use mathlib.Core.List.{[], _∷_, _++_}
+use mathlib.Core.Path.{_∙_}
+use mathlib.Core.List.{[], _∷_}
 use borrow.Author.Needs.{needs}
-use lib.ListN.{length, getD, take}
-use lib.Seq.{take-suc, take-length}
-use Rattle.kids.specs.Text.{Wrote}
-use Rattle.kids.proofs.Writing.{wrote-none, wrote-then}
+use lib.ListN.{length, getD}
+use lib.Seq.{take-length}
+use Rattle.kids.proofs.Writing.{wrote-as, Writes, writes-none, writes-more, writes-all, joined-bytes}
 use Rattle.kids.proofs.put_text.Statement.{statement}
 use Rattle.kids.proofs.put_text.Tie as tie
 
 abbrev Inv-loop : tie.InvT-loop
-Inv-loop out₀ at text end₀ i₀ out end i = (i ≤ length text) × Wrote out₀ out at end (take i text) × (end ≡ at + i)
+Inv-loop out₀ at text end₀ i₀ out end i = Writes (λ (k : ℕ). getD text k 0 ∷ []) 1 (length text) out₀ out at end i
 
 abbrev μ-loop : tie.MeasureT-loop
 μ-loop out₀ at text end₀ i₀ out end i = length text - i
@@ -21,19 +20,12 @@ abbrev μ-loop : tie.MeasureT-loop
 loop-again : tie.Need-loop-again Inv-loop μ-loop
 loop-again c =
     let put = c .before .before in
-    let turn = put .before .before .before .before in
-    let text = turn .before .before .before .args .text .now in
-    let next : take (turn .loop .i + 1) text ≡ take (turn .loop .i) text ++ (getD text (turn .loop .i) 0 ∷ []) = rw add-one (take-suc text (turn .loop .i) 0 (omega arith)) in (
-      omega arith,
-      rw next (wrote-then _ (turn .loop .out) _ _ _ _ _ _ (turn .loop .inv .1) (put .put-byte .ensures)),
-      omega (arith, put .put-byte .ensures .ends),
-    )
+    writes-more (put .before .before .before .before .loop .inv) (omega arith) (put .put-byte .ensures) (omega (arith, put .put-byte .ensures .ends))
 
 returns : tie.Need-returns Inv-loop μ-loop
 returns c =
     let text = c .before .before .before .before .args .text .now in
-    let full : c .before .loop .i ≡ length text = omega arith in
-    rw (full, take-length text) at (c .before .loop .inv .1)
+    wrote-as (joined-bytes text (length text) (le-refl (length text)) ∙ take-length text) (writes-all (c .before .loop .inv) (omega arith) .0)
 
 pub put-text-spec : {M : Type 1} → statement M
 put-text-spec =
@@ -41,11 +33,11 @@ put-text-spec =
     (tie.spec
     Inv-loop
     μ-loop
-    (λ c. (omega arith, wrote-none _ _, omega arith))
+    (λ c. writes-none)
     (λ c. search needs)
-    (λ c κs. omega (arith, c .before .before .before .loop .inv .1 .keeps))
+    (λ c κs. omega (arith, c .before .before .before .loop .inv .wrote .keeps))
     (λ c. search needs)
     (λ c. search needs)
     loop-again
-    (λ c. c .before .loop .inv .1 .keeps)
+    (λ c. c .before .loop .inv .wrote .keeps)
     returns)
