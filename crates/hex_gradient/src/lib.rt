@@ -51,7 +51,8 @@ fn dndx_from_drdx(dndr: [f64; 24], drdx: [f64; 9]) -> [f64; 24]
 
 // The gradient from the slopes, of arrays that are lent: the slopes in space go to `dndx`, and the determinant is returned.
 pub fn slopes_into(node2xyz: &[f64; 24], dndr: &[f64; 24], dndx: &mut [f64; 24]) -> f64
-    ensures { λ r. ⌜ (r ≡ gradient (now (node2xyz .entry)) (now (dndr .entry)) .detjac) × (now (dndx .exit) ≡ gradient (now (node2xyz .entry)) (now (dndr .entry)) .dndx) ⌝ }
+    ensures determinant { λ r. ⌜ r ≡ gradient (now (node2xyz .entry)) (now (dndr .entry)) .detjac ⌝ }
+    ensures slopes { λ _. ⌜ now (dndx .exit) ≡ gradient (now (node2xyz .entry)) (now (dndr .entry)) .dndx ⌝ }
 {
     let dxdr = hex_image::dxdr_from_dndr(*node2xyz, *dndr);
     let detjac = detjac(dxdr);
@@ -86,7 +87,8 @@ pub fn dndx(node2xyz: [f64; 24], r0: f64, r1: f64, r2: f64) -> ShapeGradient
 
 // The same at a place, as `slopes_into` has it from the slopes there.
 pub fn slopes_at(node2xyz: &[f64; 24], pco: [f64; 3], dndx: &mut [f64; 24]) -> f64
-    ensures { λ r. ⌜ (r ≡ shapeGradient (now (node2xyz .entry)) pco .detjac) × (now (dndx .exit) ≡ shapeGradient (now (node2xyz .entry)) pco .dndx) ⌝ }
+    ensures determinant { λ r. ⌜ r ≡ shapeGradient (now (node2xyz .entry)) pco .detjac ⌝ }
+    ensures slopes { λ _. ⌜ now (dndx .exit) ≡ shapeGradient (now (node2xyz .entry)) pco .dndx ⌝ }
 {
     let dndr = hex_shape::dndr(pco);
     slopes_into(node2xyz, &dndr, dndx)

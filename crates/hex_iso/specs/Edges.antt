@@ -1,10 +1,9 @@
 -- What each edge of a cube holds: where the surface of value zero cuts it. Definitions only.
-use Prim.Native.Nat.{ℕ, _+_, _%_}
+use Prim.Native.Nat.{ℕ}
 use mathlib.Core.Bool.{Bool, cond}
 use mathlib.Core.List.{List, []}
-use lib.Ieee.{Float, unlike}
+use lib.Ieee.{Float}
 use lib.ListN.{getD}
-use Rattle.numbers.specs.Bits.{bit, withBits}
 use Rattle.numbers.specs.Rule.{grid}
 use Rattle.binary64.specs.Binary64.{_!_, infinity}
 use Rattle.cell.specs.Edges.{end}
@@ -35,7 +34,3 @@ isoEdges center halfWidth value =
       mask = maskOf (signIndex value);
       positions = grid 12 3 (edgeOn center halfWidth value);
     }
-
--- the mask of a square alone, whose edge k goes from corner k to the next
-abbrev pub cutAround : ℕ → ℕ
-cutAround square = withBits 4 (λ (k : ℕ). unlike (bit square k) (bit square ((k + 1) % 4)))

@@ -6,7 +6,8 @@ ghost use Rattle.numbers.specs.Bits.{bit};
 ghost use Rattle.numbers.specs.Rule.{tabulate, grid};
 ghost use Rattle.binary64.specs.Binary64.{_!_};
 ghost use Rattle.hex_iso_mask.specs.Cut.{signIndex, maskOf};
-ghost use Rattle.hex_iso.specs.Edges.{cutAround, heldOn, heldBetween, edgeOn, isoEdges};
+ghost use Rattle.hex_iso.specs.Edges.{heldOn, heldBetween, edgeOn, isoEdges};
+ghost use Rattle.hex_iso.specs.Square.{cutAround};
 
 // What `iso_surface` makes its triangles of: `cubeindex`, the mask `e0`, and three floats for each of the twelve edges.
 pub struct IsoEdges {

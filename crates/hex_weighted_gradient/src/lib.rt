@@ -59,7 +59,8 @@ pub fn weighted_gradient(
     dndx: &mut [f64; 24],
     detwei: &mut f64,
 ) -> u32
-    ensures { λ r. ⌜ Leaves (weightedGradient (now (node2xyz .entry)) (now (quadrature .entry)) ir1 ir2 ir3) r (now (dndx .entry), now (detwei .entry)) (now (dndx .exit), now (detwei .exit)) ⌝ }
+    ensures { λ r. ⌜ Leaves (weightedGradient (now (node2xyz .entry)) (now (quadrature .entry)) ir1 ir2 ir3) r
+        (now (dndx .entry), now (detwei .entry)) (now (dndx .exit), now (detwei .exit)) ⌝ }
 {
     let nq = quadrature.len() / 2;
     let not_whole = quadrature.len() % 2 != 0;

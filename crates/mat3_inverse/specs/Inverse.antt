@@ -1,5 +1,5 @@
 -- The inverse of a 3 by 3 matrix, by its cofactors: document 01, "Four matrix functions of 002". Definitions and claims only.
-use Prim.Native.Nat.{ℕ, _+_, min, max}
+use Prim.Native.Nat.{ℕ, _+_}
 use mathlib.Core.Path.{_≡_}
 use mathlib.Core.Bool.{cond}
 use mathlib.Core.List.{List, [], _∷_}
@@ -10,7 +10,7 @@ use Rattle.numbers.specs.Arithmetic.{Arithmetic}
 use Rattle.integers.specs.Integers.{integers}
 use Rattle.binary64.specs.Binary64.{_⊘_, f1, isZero, floats}
 use Rattle.answer.specs.Answer.{Answer, answered, refused, LosesNothing}
-use Rattle.mat3_col_major.specs.Mat3.{place, matrix, entry, productIn, detIn, det, diagonal}
+use Rattle.mat3_col_major.specs.Mat3.{matrix, entry, productIn, detIn, det, diagonal}
 use Rattle.mat3_inverse.specs.declared.Inverse.{Inverse}
 use Rattle.mat3_inverse.specs.declared.Inverse.the-variants.{Of, ZeroDeterminant}
 
@@ -21,14 +21,10 @@ module _ {A : Type 0} (a : Arithmetic A) where
   infixl 75 _⊖_
   infixl 80 _⊗_
   infixl 90 _!_
-  -- the product of the entries at two places, the earlier place first
-  abbrev pub both : List A → ℕ → ℕ → A
-  both m p q = m ! min p q ⊗ m ! max p q
-
-  -- what is left of the determinant where row i and column j are taken out, with its sign
+  -- what is left of the determinant where row i and column j are taken out, with its sign: rows and columns are counted round from them
   abbrev pub cofactor : List A → ℕ → ℕ → A
   cofactor m i j =
-      both m (place (i + 1) (j + 1)) (place (i + 2) (j + 2)) ⊖ both m (place (i + 1) (j + 2)) (place (i + 2) (j + 1))
+      entry a m (i + 1) (j + 1) ⊗ entry a m (i + 2) (j + 2) ⊖ entry a m (i + 1) (j + 2) ⊗ entry a m (i + 2) (j + 1)
 
   -- the cofactors, transposed, each times s
   abbrev pub scaledCofactorsIn : A → List A → List A

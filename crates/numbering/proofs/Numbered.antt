@@ -10,7 +10,8 @@ use borrow.Author.Tests.{ne-eqb}
 use lib.Dec.{T, eqb}
 use lib.ListN.{length, length-append}
 use Rattle.numbers.proofs.Cases.{cases, never, is-true, passes, is-false}
-use Rattle.numbers.specs.FirstMet.{among, meet, different, placeOf}
+use Rattle.numbers.specs.Rule.{placeOf}
+use Rattle.numbers.specs.FirstMet.{among, meet, different}
 use Rattle.numbering.specs.Refinement.{Thing, edge, face, centre, same, edgesOf, facesOf, thingsOf, things}
 use Rattle.numbering.specs.Refinement.{cellCount, chain, given, number, next, IsMet, countOf, NumberedOnce}
 use Rattle.numbers.proofs.FirstMet.{among-append, among-meet, place-below, place-alike, place-tells, meet-append, meet-new, every-place, none-yet}

@@ -8,11 +8,11 @@ use mathlib.Core.Bool.{Bool, true, false, _||_, or-true, or-false}
 use mathlib.Core.List.{List, [], _∷_, _++_, append-assoc, append-nil}
 use mathlib.Core.Logic.{⊎-elim}
 use lib.ListN.{length, length-append}
-use Rattle.numbers.specs.Rule.{tabulate}
+use Rattle.numbers.specs.Rule.{tabulate, placeOf}
 use Rattle.numbers.proofs.Cases.{never, is-false}
 use Rattle.numbers.proofs.Prefix.{tabulate-past}
 use Rattle.numbers.proofs.Stored.{tabulate-more}
-use Rattle.numbers.specs.FirstMet.{among, meet, different, placeOf}
+use Rattle.numbers.specs.FirstMet.{among, meet, different}
 use Rattle.numbering.specs.Refinement.{Thing, same, chain, things, given, number}
 use Rattle.numbers.proofs.FirstMet.{among-append, among-meet, meet-append, meet-old, meet-new, first-met, place-alike}
 use Rattle.numbering.proofs.Same.{same-things}

@@ -6,12 +6,12 @@ use mathlib.Core.List.{List, [], _∷_, _++_, map}
 use mathlib.Core.Logic.{_↔_}
 use lib.Dec.{T, eqb}
 use lib.ListN.{length}
-use Rattle.numbers.specs.Rule.{tabulate}
+use Rattle.numbers.specs.Rule.{tabulate, placeOf}
 use Rattle.cell.specs.Edges.{end}
 use Rattle.faults.specs.Faults.{node, Sound}
 use Rattle.hex.specs.Cube.{edges, ring}
 use Rattle.hex_children.specs.Children.{children}
-use Rattle.numbers.specs.FirstMet.{among, different, placeOf, Sameness}
+use Rattle.numbers.specs.FirstMet.{among, different, Sameness}
 
 -- what gets a number: an edge by its ends, a face by its nodes, and the centre of the cell at a place
 pub data Thing : Type 0 where

@@ -9,7 +9,8 @@ use mathlib.Core.List.{List, [], _∷_, _++_, append-assoc, append-nil}
 use mathlib.Core.Logic.{⊎-elim}
 use lib.ListN.{length, length-append}
 use Rattle.numbers.proofs.Cases.{cases, never}
-use Rattle.numbers.specs.FirstMet.{among, meet, placeOf, Sameness}
+use Rattle.numbers.specs.Rule.{placeOf}
+use Rattle.numbers.specs.FirstMet.{among, meet, Sameness}
 
 module _ {A : Type 0} (same : A → A → Bool) where
   pub among-append : (xs ys : List A) (x : A) → among same (xs ++ ys) x ≡ (among same xs x || among same ys x)

@@ -1,5 +1,4 @@
 -- Things in the order in which they are first met, whatever counts as the same thing. Definitions only.
-use Prim.Native.Nat.{ℕ, suc}
 use mathlib.Core.Path.{_≡_}
 use mathlib.Core.Bool.{Bool, true, false, cond, not, _&&_, _||_}
 use mathlib.Core.List.{List, [], _∷_, _++_}
@@ -22,11 +21,6 @@ meet same met (x ∷ xs) = meet same (cond (among same met x) met (met ++ (x ∷
 -- the different ones of a list, in the order in which they are first met
 abbrev pub different : {A : Type 0} → (A → A → Bool) → List A → List A
 different same xs = meet same [] xs
-
--- the place of the first that is the same as x
-abbrev pub placeOf : {A : Type 0} → (A → A → Bool) → List A → A → ℕ
-placeOf same [] x = 0
-placeOf same (y ∷ ys) x = cond (same y x) 0 (suc (placeOf same ys x))
 
 -- A test of sameness is fit to number by where every thing is the same as itself, either way round, and as what is the same as the same.
 pub record Sameness {A : Type 0} (same : A → A → Bool) : Type 0 where

@@ -33,10 +33,10 @@ abbrev pub without : ℕ → List ℕ → List ℕ
 without j [] = []
 without j (i ∷ is) = cond (eqb i j) (without j is) (i ∷ without j is)
 
--- the place of the first number of the list that equals x, or the length where there is none
-abbrev pub indexOf : List ℕ → ℕ → ℕ
-indexOf [] x = 0
-indexOf (y ∷ ys) x = cond (eqb x y) 0 (suc (indexOf ys x))
+-- the place of the first of the list that is the same as x, or the length where there is none
+abbrev pub placeOf : {A : Type 0} → (A → A → Bool) → List A → A → ℕ
+placeOf same [] x = 0
+placeOf same (y ∷ ys) x = cond (same y x) 0 (suc (placeOf same ys x))
 
 -- the sum of f over a list
 abbrev pub sumOver : (ℕ → ℕ) → List ℕ → ℕ

@@ -6,7 +6,7 @@ use mathlib.Core.List.{List, [], _∷_, _++_}
 use lib.Dec.{eqb, ltb}
 use lib.ListN.{getD}
 use Rattle.numbers.specs.Rule.{tabulate, grid, count}
-use Rattle.cell.specs.Middles.{middle, nodeAt}
+use Rattle.cell.specs.Middles.{sameMiddle, nodeAt, nowhere}
 use Rattle.prism.specs.Wedge.{column, level, edges}
 
 -- where corner k stands on axis i: the triangle's origin is its corner 0, and corners 1 and 2 are one along axes 0 and 1
@@ -24,8 +24,12 @@ quad f = ends f ++ ends (f + 3)
 abbrev pub nodes : List (List ℕ)
 nodes = tabulate 6 (λ (k : ℕ). k ∷ []) ++ edges ++ tabulate 3 quad
 
+-- the numbers of these
 abbrev pub number : List ℕ → List ℕ → List ℕ → ℕ → ℕ
-number corner edge face n = cond (ltb n 6) (getD corner n 0) (cond (ltb n 15) (getD edge (n - 6) 0) (getD face (n - 15) 0))
+number corner edge face n =
+    cond (ltb n 6) (getD corner n 0)
+    (cond (ltb n 15) (getD edge (n - 6) 0)
+    (cond (ltb n 18) (getD face (n - 15) 0) nowhere))
 
 -- "Prism children 0, 1, 2 and 4, 5, 6 belong to corners 0 to 5: corner k names the middle between that corner and corner k."
 abbrev pub ofCorner : ℕ → ℕ → List ℕ
@@ -46,7 +50,7 @@ children corner edge face = grid 8 6 (λ (i k : ℕ). number corner edge face (n
 
 -- The 18 nodes stand at different places.
 abbrev pub NodesApart : Type 0
-NodesApart = (n : ℕ) → n < 18 → count 18 (λ (m : ℕ). eqb (middle at (getD nodes m [])) (middle at (getD nodes n []))) ≡ 1
+NodesApart = (n : ℕ) → n < 18 → count 18 (λ (m : ℕ). sameMiddle at (getD nodes m []) (getD nodes n [])) ≡ 1
 
 -- Every corner of a child is one of the 18 nodes: `nodeAt` answers 18 where none of them stands.
 abbrev pub CornersAreNodes : Type 0

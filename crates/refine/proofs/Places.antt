@@ -8,7 +8,7 @@ use mathlib.Core.List.{List, [], _∷_}
 use borrow.Author.Tests.{eq-eqb, ne-eqb, eqb-true, eqb-false, lt-ltb, le-ltb}
 use lib.Dec.{eqb}
 use lib.ListN.{length, getD}
-use Rattle.numbers.specs.FirstMet.{placeOf}
+use Rattle.numbers.specs.Rule.{placeOf}
 use Rattle.numbers.proofs.Cases.{cases, never}
 use Rattle.refine.specs.declared.Found.the-variants.{At, Nothing}
 use Rattle.refine.specs.Search.{isOld, numberBeside, foundIn}

@@ -10,8 +10,7 @@ use borrow.Author.Tests.{eqb-true, eqb-false, ltb-true, ltb-false}
 use lib.Dec.{eqb, ltb}
 use lib.ListN.{length, getD, take, drop, set, length-take, take-append-drop, List·getD-append}
 use lib.Seq.{getD-set-same, getD-set-other, getD-take, getD-append-add, ext-getD}
-use Rattle.numbers.specs.Rule.{tabulate}
-use Rattle.numbers.specs.FirstMet.{placeOf}
+use Rattle.numbers.specs.Rule.{tabulate, placeOf}
 use Rattle.numbers.proofs.Cases.{cases}
 use Rattle.numbers.proofs.Stored.{length-tabulate, stored-behind}
 use Rattle.numbers.proofs.Tabulate.{tabulate-at}

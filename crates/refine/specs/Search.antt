@@ -5,8 +5,7 @@ use mathlib.Core.Bool.{Bool, cond, not}
 use mathlib.Core.List.{List, _++_}
 use lib.Dec.{eqb, ltb}
 use lib.ListN.{getD, take, drop}
-use Rattle.numbers.specs.Rule.{tabulate, count}
-use Rattle.numbers.specs.FirstMet.{placeOf}
+use Rattle.numbers.specs.Rule.{tabulate, count, placeOf}
 use Rattle.hex_children.specs.Children.{children}
 use Rattle.numbering.specs.Refinement.{centre, cellCount, edgeOf, faceOf, chain, number}
 use Rattle.refine.specs.declared.Found.{Found}

@@ -3,7 +3,7 @@ use Prim.Native.Nat.{ℕ, _*_, _/_, _%_, _^_}
 use mathlib.Core.Path.{refl}
 use lib.Bits.{bitAnd, bitOr, bitXor}
 use Rattle.numbers.proofs.Tabulate.{tabulate-same}
-use Rattle.hex_iso.specs.Edges.{cutAround}
+use Rattle.hex_iso.specs.Square.{cutAround}
 use Rattle.hex_iso.proofs.around.Statement.{statement}
 use Rattle.hex_iso.proofs.around.Tie as tie
 

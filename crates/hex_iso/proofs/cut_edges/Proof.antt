@@ -7,7 +7,7 @@ use borrow.Author.Needs.{needs}
 use Rattle.numbers.specs.Rule.{tabulate}
 use Rattle.numbers.proofs.Tabulate.{tabulate-same}
 use Rattle.hex_iso_mask.specs.Cut.{maskOf}
-use Rattle.hex_iso.specs.Edges.{cutAround}
+use Rattle.hex_iso.specs.Square.{cutAround}
 use Rattle.hex_iso.proofs.cut_edges.Statement.{statement}
 use Rattle.hex_iso.proofs.cut_edges.Tie as tie
 

@@ -16,7 +16,13 @@ returns-2 c =
 returns-3 : tie.Need-returns-3
 returns-3 c =
     let at = c .before .before .before .before .before .args in
-    simp (c .position .ensures, c .before .sign-of2 .ensures, c .before .before .sign-of .ensures, le-ltb 7 (at .i0-node) (omega arith), le-ltb 7 (at .i1-node) (omega arith))
+    simp (
+      c .position .ensures,
+      c .before .sign-of2 .ensures,
+      c .before .before .sign-of .ensures,
+      le-ltb 7 (at .i0-node) (omega arith),
+      le-ltb 7 (at .i1-node) (omega arith),
+    )
 
 pub iso-position-on-edge-spec : {M : Type 1} → statement M
 iso-position-on-edge-spec =
