@@ -30,8 +30,8 @@ weightOf line triangle i j = weight line i ⊗ triangle ! (3 * j + 2)
 unfoldable pub termAt : List Float → List Float → List Float → ℕ → ℕ → Float
 termAt p line triangle i j = det (jacobianAt p (placeOf line triangle i j)) ⊗ weightOf line triangle i j
 
--- "The prism's line points are outer, its triangle points inner": m line points and n triangle points make m * n terms, and term t is that
--- of line point t / n and triangle point t % n
+-- "The prism's line points are outer, its triangle points inner": m line points and n triangle points make m * n terms, added up from
+-- plus zero, and term t is that of line point t / n and triangle point t % n
 unfoldable pub sumOfTerms : List Float → List Float → List Float → ℕ → ℕ → Float
 sumOfTerms p line triangle m n = foldTo _⊕_ f0 (m * n) (λ (t : ℕ). termAt p line triangle (t / n) (t % n))
 
