@@ -1,5 +1,5 @@
 -- The volume of a hexahedron, by points that the caller lends. Definitions only.
-use Prim.Native.Nat.{ℕ}
+use Prim.Native.Nat.{ℕ, _/_, _%_, _^_}
 use mathlib.Core.Bool.{cond}
 use mathlib.Core.List.{List, [], _∷_}
 use lib.Ieee.{Float}
@@ -16,22 +16,14 @@ termAt p points i j k =
     det (jacobianAt p (place points i ∷ place points j ∷ place points k ∷ []))
     ⊗ (weight points i ⊗ weight points j ⊗ weight points k)
 
--- "Hex volume sums over the three point indices, last one fastest, from plus zero": a sum with the first m terms of row i, j added,
-unfoldable pub row : List Float → List Float → ℕ → ℕ → Float → ℕ → Float
-row p points m i sum j = foldTo (λ (a x : Float). a ⊕ x) sum m (termAt p points i j)
-
--- with the first m rows of plane i added, n terms each,
-unfoldable pub plane : List Float → List Float → ℕ → ℕ → Float → ℕ → Float
-plane p points n m sum i = foldTo (row p points n i) sum m (λ (j : ℕ). j)
-
--- and the first m planes, n rows each, from plus zero
-unfoldable pub block : List Float → List Float → ℕ → ℕ → Float
-block p points n m = foldTo (plane p points n n) f0 m (λ (i : ℕ). i)
+-- "Hex volume sums over the three point indices, last one fastest, from plus zero": n points make n ^ 3 terms, and the three indices of
+-- term t are the digits of t in base n
+unfoldable pub sumOfTerms : List Float → List Float → ℕ → Float
+sumOfTerms p points n = foldTo _⊕_ f0 (n ^ 3) (λ (t : ℕ). termAt p points (t / n / n) (t / n % n) (t % n))
 
 -- "Volume and gradient: 8, 7, 9"
 abbrev pub volume : List Float → List Float → Answer Float
 volume p points =
-    let n = pointCount 2 points in
     cond (notWhole 2 points) (refused 8)
     (cond (notOneTo16 2 points) (refused 7)
-    (answered (block p points n n)))
+    (answered (sumOfTerms p points (pointCount 2 points))))

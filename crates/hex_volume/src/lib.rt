@@ -3,7 +3,7 @@ use cell::Measured;
 ghost use mathlib.Core.Path.{_≡_};
 ghost use Prim.Native.Nat.{_≤_, _<_};
 ghost use Rattle.cell.specs.Points.{pointCount, told};
-ghost use Rattle.hex_volume.specs.Volume.{termAt, block, volume};
+ghost use Rattle.hex_volume.specs.Volume.{termAt, sumOfTerms, volume};
 
 // What the points ir0, ir1, ir2 add to the volume.
 fn term(p: [f64; 24], quadrature: &[f64], ir0: usize, ir1: usize, ir2: usize) -> f64
@@ -22,7 +22,7 @@ fn term(p: [f64; 24], quadrature: &[f64], ir0: usize, ir1: usize, ir2: usize) ->
 // The sum over the first nq points on each axis.
 fn sum_of_terms(p: [f64; 24], quadrature: &[f64], nq: usize) -> f64
     requires { ⌜ nq ≤ pointCount 2 (now quadrature) ⌝ }
-    ensures { λ r. ⌜ r ≡ block p (now (quadrature .entry)) nq nq ⌝ }
+    ensures { λ r. ⌜ r ≡ sumOfTerms p (now (quadrature .entry)) nq ⌝ }
 {
     let mut sum = 0.0;
     for ir0 in 0..nq {

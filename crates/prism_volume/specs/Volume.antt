@@ -1,6 +1,6 @@
 -- The volume of a prism, by points that the caller lends. Definitions only.
 -- A line point is two floats, its place and its weight; a triangle point is three, its two coordinates and its weight.
-use Prim.Native.Nat.{ℕ, _+_, _*_}
+use Prim.Native.Nat.{ℕ, _+_, _*_, _/_, _%_}
 use mathlib.Core.Bool.{cond}
 use mathlib.Core.List.{List, [], _∷_}
 use lib.Ieee.{Float}
@@ -30,13 +30,10 @@ weightOf line triangle i j = weight line i ⊗ triangle ! (3 * j + 2)
 unfoldable pub termAt : List Float → List Float → List Float → ℕ → ℕ → Float
 termAt p line triangle i j = det (jacobianAt p (placeOf line triangle i j)) ⊗ weightOf line triangle i j
 
--- "The prism's line points are outer, its triangle points inner": a sum with the first n terms of line point i added,
-unfoldable pub layer : List Float → List Float → List Float → ℕ → Float → ℕ → Float
-layer p line triangle n sum i = foldTo (λ (a x : Float). a ⊕ x) sum n (termAt p line triangle i)
-
--- and the first m layers, n terms each, from plus zero
-unfoldable pub stack : List Float → List Float → List Float → ℕ → ℕ → Float
-stack p line triangle n m = foldTo (layer p line triangle n) f0 m (λ (i : ℕ). i)
+-- "The prism's line points are outer, its triangle points inner": m line points and n triangle points make m * n terms, added up from
+-- plus zero, and term t is that of line point t / n and triangle point t % n
+unfoldable pub sumOfTerms : List Float → List Float → List Float → ℕ → ℕ → Float
+sumOfTerms p line triangle m n = foldTo _⊕_ f0 (m * n) (λ (t : ℕ). termAt p line triangle (t / n) (t % n))
 
 -- "Volume and gradient: 8, 7, 9 (for prisms each number looks at the line list first)."
 abbrev pub volumeAnswer : List Float → List Float → List Float → Answer Float
@@ -45,4 +42,4 @@ volumeAnswer p line triangle =
     (cond (notWhole 3 triangle) (refused 8)
     (cond (notOneTo16 2 line) (refused 7)
     (cond (notOneTo16 3 triangle) (refused 7)
-    (answered (stack p line triangle (pointCount 3 triangle) (pointCount 2 line) ⊗ one4th)))))
+    (answered (sumOfTerms p line triangle (pointCount 2 line) (pointCount 3 triangle) ⊗ one4th)))))

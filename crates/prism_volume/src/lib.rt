@@ -4,7 +4,7 @@ use cell::Measured;
 ghost use mathlib.Core.Path.{_≡_};
 ghost use Prim.Native.Nat.{_≤_, _<_};
 ghost use Rattle.cell.specs.Points.{pointCount, told};
-ghost use Rattle.prism_volume.specs.Volume.{termAt, stack, volumeAnswer};
+ghost use Rattle.prism_volume.specs.Volume.{termAt, sumOfTerms, volumeAnswer};
 
 // What line point ir_l and triangle point ir_t add to the volume.
 fn term(p: [f64; 18], quad_l: &[f64], quad_t: &[f64], ir_l: usize, ir_t: usize) -> f64
@@ -33,7 +33,7 @@ fn sum_of_terms(
     num_quad_t: usize,
 ) -> f64
     requires { ⌜ («num_quad_l» ≤ pointCount 2 (now «quad_l»)) × («num_quad_t» ≤ pointCount 3 (now «quad_t»)) ⌝ }
-    ensures { λ r. ⌜ r ≡ stack p (now («quad_l» .entry)) (now («quad_t» .entry)) «num_quad_t» «num_quad_l» ⌝ }
+    ensures { λ r. ⌜ r ≡ sumOfTerms p (now («quad_l» .entry)) (now («quad_t» .entry)) «num_quad_l» «num_quad_t» ⌝ }
 {
     let mut volume = 0.0;
     for ir_l in 0..num_quad_l {
