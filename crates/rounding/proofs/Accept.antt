@@ -31,8 +31,7 @@ module _ (p n t d B up down E g : ℕ) (image : Within ((p * d + down) * B) ((n 
 
 -- ---- of the float image z, the exact sum Z / d and the tolerance t
 module _
-    (f : Format) (d : ℕ) (z : Float) (Z : ℤ) (up down E : ℕ) (t : Float)
-    (image : Image f d z up down E) (balance : Balance Z up down) (tol : Tolerance f t)
+    {f : Format} {d : ℕ} {z : Float} {Z : ℤ} {up down E : ℕ} {t : Float} (image : Image f d z up down E) (balance : Balance Z up down) (tol : Tolerance f t)
   where
     abbrev B : ℕ
     B = 2 ^ prec f
