@@ -21,7 +21,7 @@ use Rattle.probe.proofs.Shape.{Coordinate, sideUnits, sideBound, little
 use Rattle.probe.proofs.Weights.{weight, weight-exact, corner-sum, Small}
 use Rattle.rounding.proofs.Units.{Held, plus, minus}
 use Rattle.rounding.proofs.Weight.{Slack}
-use Rattle.rounding.proofs.Products.{Term, Image, gathered, Weights, estimate, image-near}
+use Rattle.rounding.proofs.Products.{Term, Fraction, Image, gathered, Weights, estimate, image-near}
 use Rattle.rounding.proofs.Exact.{Balance, balance-image}
 
 -- a corner's coordinate that refusal 3 lets pass: zero, or from 2 ^ -100 to 2 ^ 100 in size, which are 2 ^ 974 and 2 ^ 1174 units
@@ -100,13 +100,15 @@ module _ (p q : List Float) (i : ℕ) (place : Place q) (corners : (k : ℕ) →
         most = corner-most k below;
       }
 
-  abbrev up : ℕ
-  up = gathered _+_ 7 (λ (k : ℕ). weight q k * plus binary64 (corner p k i))
+  abbrev exact : Fraction
+  exact =
+      record {
+        up = gathered _+_ 7 (λ (k : ℕ). weight q k * plus binary64 (corner p k i));
+        down = gathered _+_ 7 (λ (k : ℕ). weight q k * minus binary64 (corner p k i));
+        whole = whole;
+      }
 
-  abbrev down : ℕ
-  down = gathered _+_ 7 (λ (k : ℕ). weight q k * minus binary64 (corner p k i))
-
-  pub image-balance : Balance (exactImage p q i) up down
+  pub image-balance : Balance (exactImage p q i) (exact .up) (exact .down)
   unfolding exactImage
   image-balance = balance-image 7 (exactWeight q) (weight q) (λ (k : ℕ). corner p k i) (λ (k : ℕ) (below : k < 8). weight-exact q small k)
 
@@ -114,9 +116,9 @@ module _ (p q : List Float) (i : ℕ) (place : Place q) (corners : (k : ℕ) →
   fourteen : 13 * (2 ^ 53 + roundings) * (M * gathered _+_ 7 bound) ≤ margin p i * 2 ^ 53
   fourteen = scaled-by (13 * (2 ^ 53 + roundings)) M (gathered _+_ 7 bound) ((2 * one + 2 * little) ^ 3) roundings whole (2 ^ 53) bulk (lit≤ tt)
 
-  pub image-close : i < 3 → Image binary64 whole (imageAt p q ! i) up down (margin p i)
+  pub image-close : i < 3 → Image binary64 (imageAt p q ! i) exact (margin p i)
   unfolding imageAt
   image-close below =
       let room = le-trans (mul-le-mul-right 4 (mul-le-mul M-most (le-of-eq bulk))) (lit≤ tt) in
       let z = image-near scale M 7 weights (λ (k : ℕ). corner p k i) (lit≤ tt) (lit≤ tt) slack-five term (margin p i) (lit≤ tt) room fourteen in
-      subst (λ (x : Float). Image binary64 whole x up down (margin p i)) (sym (tabulate-at 3 (imageOn 8 (shape q) p) nan i below)) z
+      subst (λ (x : Float). Image binary64 x exact (margin p i)) (sym (tabulate-at 3 (imageOn 8 (shape q) p) nan i below)) z

@@ -141,10 +141,16 @@ fold-most (suc n) M a b r v h each =
     let first = each 0 (zero-lt-suc n) in
     fold-most n M (a + r 0) (b + v 0) (later r) (later v) (omega arith) (λ (m : ℕ) (below : m < n). each (suc m) (suc-le-suc below))
 
--- z is (up - down) / d units, but for error / d of the 2 ^ prec-th part of a unit
-pub record Image (f : Format) (d : ℕ) (z : Float) (up down error : ℕ) : Type 0 where
+-- (up - down) / whole units
+pub record Fraction : Type 0 where
+  pub up : ℕ
+  pub down : ℕ
+  pub whole : ℕ
+
+-- z is the exact fraction, but for error / whole of the 2 ^ prec-th part of a unit
+pub record Image (f : Format) (z : Float) (exact : Fraction) (error : ℕ) : Type 0 where
   pub held : Held f z
-  pub close : Within ((plus f z * d + down) * 2 ^ prec f) ((minus f z * d + up) * 2 ^ prec f) error
+  pub close : Within ((plus f z * exact .whole + exact .down) * 2 ^ prec f) ((minus f z * exact .whole + exact .up) * 2 ^ prec f) error
 
 -- The weights of corners, and what they stand for: value m is near exact m parts, by so many roundings of bound m parts.
 pub record Weights : Type 0 where
@@ -160,9 +166,6 @@ module _
     (s : Scale) (M n : ℕ) (w : Weights) (corner : ℕ → Float) (pos : 0 < s .whole) (few : s .spare ≤ fine s) (slack : Slack s (w .roundings) 0)
     (terms : (m : ℕ) → m < suc n → Term s M (w .value m) (corner m) (estimate w m))
   where
-    abbrev whole : ℕ
-    whole = ofProducts s .whole
-
     abbrev bulk : ℕ
     bulk = gathered _+_ n (w .bound)
 
@@ -174,6 +177,14 @@ module _
 
     abbrev sizes : ℕ → ℕ
     sizes m = part m .bound
+
+    abbrev exact : Fraction
+    exact =
+        record {
+          up = gathered _+_ n (λ (m : ℕ). part m .up);
+          down = gathered _+_ n (λ (m : ℕ). part m .down);
+          whole = ofProducts s .whole;
+        }
 
     sizes-most : gathered _+_ n sizes ≤ M * bulk
     sizes-most =
@@ -189,10 +200,11 @@ module _
     abbrev all : ℕ
     all = cost s (n + suc (w .roundings))
 
-    pub image-near : (error : ℕ) → all ≤ s .spare * fine s → M * bulk * 4 ≤ overflow (s .format) * whole → all * (M * bulk) ≤ error * fine s
-        → Image (s .format) whole (gathered (add (s .format)) n product) (gathered _+_ n (λ (m : ℕ). part m .up)) (gathered _+_ n (λ (m : ℕ). part m .down)) error
+    pub image-near : (error : ℕ) → all ≤ s .spare * fine s → M * bulk * 4 ≤ overflow (s .format) * exact .whole → all * (M * bulk) ≤ error * fine s
+        → Image (s .format) (gathered (add (s .format)) n product) exact error
     image-near error spare room small =
-        let sum = sums-near (ofProducts s) (mul-pos pos (pow-pos (low (s .format)))) few n (later product) (later part) (λ (m : ℕ) (below : m < n). le-refl _) spare
+        let units = mul-pos pos (pow-pos (low (s .format))) in
+        let sum = sums-near (ofProducts s) units few n (later product) (later part) (λ (m : ℕ) (below : m < n). le-refl _) spare
         (le-trans (mul-le-mul-right 4 sizes-most) room) (each-near 0 (zero-lt-suc n)) (λ (m : ℕ) (below : m < n). each-near (suc m) (suc-le-suc below)) in
         let most = le-trans (mul-le-mul-left all sizes-most) small in
         record {

@@ -12,7 +12,7 @@ use Rattle.hex_locate.specs.Locate.{inside}
 use Rattle.probe.specs.Check.{goodCorners, goodTolerance, checked, told}
 use Rattle.probe.specs.Demand.{AcceptedIsNear, NearIsAccepted}
 use Rattle.probe.specs.declared.Verdict.{Verdict}
-use Rattle.probe.specs.declared.Verdict.the-variants.{Accepted, Refused}
+use Rattle.probe.specs.declared.Verdict.the-variants.{Accepted}
 use Rattle.probe.proofs.Arguments.{point-fits}
 use Rattle.probe.proofs.Demand.{check-promises}
 use Rattle.probe.proofs.judge.Statement.{statement}
