@@ -15,7 +15,7 @@ use Rattle.cell.specs.declared.Point.{Point}
 use Rattle.hex_image.specs.Image.{imageAt}
 use Rattle.hex_locate.specs.Locate.{within, inside, located}
 use Rattle.probe.specs.Check.{goodCorner, goodCorners, goodTolerance, nearOn, near, checked, keptIfNear, locatedChecked, told, placeTold}
-use Rattle.probe.specs.Exact.{exactImage, whole, margin, AtMostTPlusE, AtMostTMinusE}
+use Rattle.probe.specs.Exact.{AtMostTPlusE, AtMostTMinusE}
 use Rattle.probe.specs.Demand.{AcceptedIsNear, NearIsAccepted, Floats, Demand3}
 use Rattle.probe.specs.declared.Verdict.{Verdict}
 use Rattle.probe.specs.declared.Verdict.the-variants.{Accepted}
@@ -48,8 +48,7 @@ module _
     near-sound passed i below =
         let image = image-close p q i at (axis i below) below in
         let exact = image-balance p q i at (axis i below) in
-        accepted-near binary64 whole (imageAt p q ! i) (exactImage p q i) _ _ (margin p i) t image exact (tolerance t t-fits tol)
-        (each-axis test passed i below)
+        accepted-near image exact (tolerance t t-fits tol) (each-axis test passed i below)
 
     near-complete : AtMostTMinusE p q t → T (near p q t)
     near-complete well = all-axes test one
@@ -58,7 +57,7 @@ module _
         one i below =
             let image = image-close p q i at (axis i below) below in
             let exact = image-balance p q i at (axis i below) in
-            near-accepted binary64 whole (imageAt p q ! i) (exactImage p q i) _ _ (margin p i) t image exact (tolerance t t-fits tol) (lit≤ tt) (well i below)
+            near-accepted image exact (tolerance t t-fits tol) (lit≤ tt) (well i below)
 
 -- ---- of the check
 module _ (p q : List Float) (t : Float) (p-fits : Floats 24 p) (q-fits : Floats 3 q) (t-fits : T (fits binary64 t)) where

@@ -21,7 +21,7 @@ use Rattle.probe.proofs.Shape.{Coordinate, sideUnits, sideBound, little
 use Rattle.probe.proofs.Weights.{weight, weight-exact, corner-sum, Small}
 use Rattle.rounding.proofs.Units.{Held, plus, minus}
 use Rattle.rounding.proofs.Weight.{Slack}
-use Rattle.rounding.proofs.Products.{Term, Image, gathered, image-near}
+use Rattle.rounding.proofs.Products.{Term, Fraction, Image, gathered, Weights, estimate, image-near}
 use Rattle.rounding.proofs.Exact.{Balance, balance-image}
 
 -- a corner's coordinate that refusal 3 lets pass: zero, or from 2 ^ -100 to 2 ^ 100 in size, which are 2 ^ 974 and 2 ^ 1174 units
@@ -30,7 +30,7 @@ pub record Good (x : Float) : Type 0 where
   pub least : (size x ≡ 0) ⊎ (2 ^ 974 ≤ size x)
   pub most : size x ≤ 2 ^ 1174
 
-slack-five : Slack binary64 roundings 5 0
+slack-five : Slack scale 5 0
 slack-five = record { growth = lit≤ tt; left = lit≤ tt; right = lit≤ tt }
 
 scaled-by : (c m b K r W B : ℕ) → b ≡ K → c * K ≤ r * W * B → c * (m * b) ≤ r * m * W * B
@@ -56,6 +56,9 @@ module _ (p q : List Float) (i : ℕ) (place : Place q) (corners : (k : ℕ) →
   abbrev bound : ℕ → ℕ
   bound k = sideBound (upper k 0) (q ! 0) * sideBound (upper k 1) (q ! 1) * sideBound (upper k 2) (q ! 2)
 
+  abbrev weights : Weights
+  weights = record { value = shapeAt q; exact = weight q; bound = bound; roundings = 5 }
+
   -- the bounds of the eight weights are a little more than `whole`
   both : (i : ℕ) → i < 3 → sideBound true (q ! i) + sideBound false (q ! i) ≡ 2 * one + 2 * little
   both i below =
@@ -80,7 +83,7 @@ module _ (p q : List Float) (i : ℕ) (place : Place q) (corners : (k : ℕ) →
   unfolding largest
   M-most = largest-most 8 0 (2 ^ 1174) (λ (k : ℕ). size (corner p k i)) (lit≤ tt) (λ (k : ℕ) (below : k < 8). corners k below .most)
 
-  term : (k : ℕ) → k < 8 → Term binary64 scale roundings 5 M (shapeAt q k) (corner p k i) (weight q k) (bound k)
+  term : (k : ℕ) → k < 8 → Term scale M (shapeAt q k) (corner p k i) (estimate weights k)
   term k below =
       let good = corners k below in
       let value = shape-sized (upper k 0) (upper k 1) (upper k 2) (q ! 0) (q ! 1) (q ! 2) A B C in
@@ -97,13 +100,15 @@ module _ (p q : List Float) (i : ℕ) (place : Place q) (corners : (k : ℕ) →
         most = corner-most k below;
       }
 
-  abbrev up : ℕ
-  up = gathered _+_ 7 (λ (k : ℕ). weight q k * plus binary64 (corner p k i))
+  abbrev exact : Fraction
+  exact =
+      record {
+        up = gathered _+_ 7 (λ (k : ℕ). weight q k * plus binary64 (corner p k i));
+        down = gathered _+_ 7 (λ (k : ℕ). weight q k * minus binary64 (corner p k i));
+        whole = whole;
+      }
 
-  abbrev down : ℕ
-  down = gathered _+_ 7 (λ (k : ℕ). weight q k * minus binary64 (corner p k i))
-
-  pub image-balance : Balance (exactImage p q i) up down
+  pub image-balance : Balance (exactImage p q i) (exact .up) (exact .down)
   unfolding exactImage
   image-balance = balance-image 7 (exactWeight q) (weight q) (λ (k : ℕ). corner p k i) (λ (k : ℕ) (below : k < 8). weight-exact q small k)
 
@@ -111,10 +116,9 @@ module _ (p q : List Float) (i : ℕ) (place : Place q) (corners : (k : ℕ) →
   fourteen : 13 * (2 ^ 53 + roundings) * (M * gathered _+_ 7 bound) ≤ margin p i * 2 ^ 53
   fourteen = scaled-by (13 * (2 ^ 53 + roundings)) M (gathered _+_ 7 bound) ((2 * one + 2 * little) ^ 3) roundings whole (2 ^ 53) bulk (lit≤ tt)
 
-  pub image-close : i < 3 → Image binary64 whole (imageAt p q ! i) up down (margin p i)
+  pub image-close : i < 3 → Image binary64 (imageAt p q ! i) exact (margin p i)
   unfolding imageAt
   image-close below =
       let room = le-trans (mul-le-mul-right 4 (mul-le-mul M-most (le-of-eq bulk))) (lit≤ tt) in
-      let z = image-near binary64 scale roundings 5 M (lit≤ tt) (lit≤ tt) slack-five 7 (shapeAt q) (λ (k : ℕ). corner p k i) (weight q) bound term
-      (margin p i) (lit≤ tt) room fourteen in
-      subst (λ (x : Float). Image binary64 whole x up down (margin p i)) (sym (tabulate-at 3 (imageOn 8 (shape q) p) nan i below)) z
+      let z = image-near scale M 7 weights (λ (k : ℕ). corner p k i) (lit≤ tt) (lit≤ tt) slack-five term (margin p i) (lit≤ tt) room fourteen in
+      subst (λ (x : Float). Image binary64 x exact (margin p i)) (sym (tabulate-at 3 (imageOn 8 (shape q) p) nan i below)) z

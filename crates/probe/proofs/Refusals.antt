@@ -3,13 +3,11 @@ use Prim.Native.Nat.{ℕ}
 use mathlib.Core.Path.{_≡_, sym, ap, _∙_}
 use mathlib.Core.Bool.{not}
 use mathlib.Core.List.{List, [], _∷_}
-use lib.Dec.{T}
 use lib.Ieee.{Float}
-use Rattle.answer.specs.Answer.{answered, numberOf, isOneOf, RefusesBy}
+use Rattle.answer.specs.Answer.{answered, numberOf, RefusesBy}
 use Rattle.answer.proofs.Answers.{refuses-unless, refuses-then, zero-tells-an-answer}
-use Rattle.cell.proofs.Refusals.{step-refuses, locate-refuses}
-use Rattle.hex_image.specs.Image.{imageAt, jacobianAt}
-use Rattle.hex_locate.specs.Locate.{step, start, inside, located}
+use Rattle.hex_locate.specs.Locate.{inside, located}
+use Rattle.hex_locate.proofs.Refusals.{located-refuses}
 use Rattle.probe.specs.Check.{goodCorners, goodTolerance, near, checked, keptIfNear, locatedChecked, told}
 use Rattle.probe.specs.declared.Verdict.{Verdict}
 use Rattle.probe.specs.declared.Verdict.the-variants.{Accepted}
@@ -31,10 +29,6 @@ zero-accepts p q t zero = zero-tells-an-answer (Unit {0}) ofCheck (checked p q t
 
 abbrev ofLocator : List ℕ
 ofLocator = 3 ∷ 4 ∷ 1 ∷ 2 ∷ 6 ∷ []
-
-pub located-refuses : (ns : List ℕ) (p : List Float) → T (isOneOf ns 1) → T (isOneOf ns 2) → RefusesBy ns (located p)
-unfolding located step
-located-refuses ns p one two = locate-refuses ns (step p) start (λ q. step-refuses ns q (imageAt p q) (jacobianAt p q) one) inside two
 
 pub located-checked-refuses : (p : List Float) (t : Float) → RefusesBy ofLocator (locatedChecked p t)
 unfolding locatedChecked

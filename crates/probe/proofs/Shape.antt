@@ -16,8 +16,9 @@ use Rattle.hex_shape.specs.Shape.{one8, side}
 use Rattle.probe.specs.Exact.{exactSide, roundings}
 use Rattle.rounding.proofs.Units.{Held, neg-held, neg-size, neg-sign}
 use Rattle.rounding.proofs.Round.{Rounded}
-use Rattle.rounding.proofs.Weight.{Sized, Slack, Times, product-sized}
-use Rattle.rounding.proofs.Factor.{onePlus, one-plus, rounded-sized, eighth-sized}
+use Rattle.rounding.proofs.Estimate.{Scale, over, Estimate, Sized, Times, times, square}
+use Rattle.rounding.proofs.Weight.{Slack, product-sized}
+use Rattle.rounding.proofs.Factor.{onePlus, one-plus, roundedOnce, rounded-sized, eighth-sized}
 use Rattle.rounding.proofs.Exact.{pos-minus}
 
 -- a coordinate of a place in the cube
@@ -83,50 +84,59 @@ bound-least up r = add-right (sideUnits up r) little
 bound-most : (up : Bool) (r : Float) → Coordinate r → sideBound up r ≤ 2 * one + little
 bound-most up r c = add-le-add (reach-most one (cond up (isNegative r) (not (isNegative r))) (size r) (c .small)) (le-refl little)
 
-side-sized : (up : Bool) (r : Float) → Coordinate r → Sized binary64 1 roundings (side up r) (sideUnits up r) (sideBound up r) 1
-side-sized up r c = rounded-sized binary64 roundings (side up r) false (sideUnits up r) little (side-fits up r) (side-rounded up r c)
+abbrev sideEstimate : Bool → Float → Estimate
+sideEstimate up r = roundedOnce (sideUnits up r) little
 
--- ---- fourteen leaves room for five roundings and what they make together
-slack-two : Slack binary64 roundings 1 1
+-- ---- sides are counted in units, an eighth of one in eighths of a unit, and each product in parts of a square unit
+abbrev inUnits : Scale
+inUnits = record { format = binary64; spare = roundings; whole = 1 }
+
+abbrev inEighths : Scale
+inEighths = over inUnits 8
+
+abbrev pub scale : Scale
+scale = square (square inEighths 1) 1
+
+-- fourteen leaves room for five roundings and what they make together
+slack-two : Slack inEighths 1 1
 slack-two = record { growth = lit≤ tt; left = lit≤ tt; right = lit≤ tt }
 
-slack-four : Slack binary64 roundings 3 1
+slack-four : Slack (square inEighths 1) 3 1
 slack-four = record { growth = lit≤ tt; left = lit≤ tt; right = lit≤ tt }
 
--- ---- the shape value of the corner with these signs: its exact weight is over the eighth's 8 and two ones
-abbrev pub scale : ℕ
-scale = 8 * 1 * one * 1 * one
+side-sized : (up : Bool) (r : Float) → Coordinate r → Sized inUnits (side up r) (sideEstimate up r)
+side-sized up r c = rounded-sized inUnits little (side-fits up r) (side-rounded up r c)
 
+-- ---- the shape value of the corner with these signs
 module _ (u v w : Bool) (a b c : Float) (A : Coordinate a) (B : Coordinate b) (C : Coordinate c) where
-  one-side : Times binary64 8 roundings (one8 ⊗ side u a) false (sideUnits u a) (sideBound u a) 1
+  one-side : Times inEighths (one8 ⊗ side u a) false (sideEstimate u a)
   unfolding add mul div ofBits
   one-side =
       let r = side-rounded u a A in
-      eighth-sized binary64 roundings (side u a) false (sideUnits u a) little (record { in-format = side-fits u a; is-finite = r .is-finite }) r (lit≤ tt)
+      eighth-sized inUnits (record { in-format = side-fits u a; is-finite = r .is-finite }) r (lit≤ tt)
 
-  two-sides : Times binary64 (8 * 1 * one) roundings (one8 ⊗ side u a ⊗ side v b) false (sideUnits u a * sideUnits v b) (sideBound u a * sideBound v b) 3
+  abbrev twoEstimate : Estimate
+  twoEstimate = times (sideEstimate u a) (sideEstimate v b)
+
+  two-sides : Times (square inEighths 1) (one8 ⊗ side u a ⊗ side v b) false twoEstimate
   two-sides =
       let room = le-trans (mul-le-mul-right 8 (mul-le-mul (bound-most u a A) (bound-most v b B))) (lit≤ tt) in
       let normal = inr (le-trans (lit≤ tt) (mul-le-mul (bound-least u a) (bound-least v b))) in
-      let z = product-sized binary64 8 1 roundings (one8 ⊗ side u a) (side v b) (sideUnits u a) (sideUnits v b) (sideBound u a) (sideBound v b) 1 1
-      (lit≤ tt) (lit≤ tt) (one-side .sized) (side-sized v b B) slack-two room normal in
+      let z = product-sized inEighths 1 (lit≤ tt) (lit≤ tt) (one-side .sized) (side-sized v b B) slack-two room normal in
       record { sized = z .sized; sign-is = z .sign-is ∙ ap₂ unlike (one-side .sign-is) (side-rounded v b B .sign) }
 
-  abbrev weightUnits : ℕ
-  weightUnits = sideUnits u a * sideUnits v b * sideUnits w c
+  abbrev shapeEstimate : Estimate
+  shapeEstimate = times twoEstimate (sideEstimate w c)
 
-  abbrev weightBound : ℕ
-  weightBound = sideBound u a * sideBound v b * sideBound w c
-
-  pub bound-between : (little ^ 3 ≤ weightBound) × (weightBound ≤ (2 * one + little) ^ 3)
+  pub bound-between : (little ^ 3 ≤ shapeEstimate .bound) × (shapeEstimate .bound ≤ (2 * one + little) ^ 3)
   bound-between = (
     mul-le-mul (mul-le-mul (bound-least u a) (bound-least v b)) (bound-least w c),
     mul-le-mul (mul-le-mul (bound-most u a A) (bound-most v b B)) (bound-most w c C),
   )
 
-  pub shape-sized : Times binary64 scale roundings (one8 ⊗ side u a ⊗ side v b ⊗ side w c) false weightUnits weightBound 5
+  pub shape-sized : Times scale (one8 ⊗ side u a ⊗ side v b ⊗ side w c) false shapeEstimate
   shape-sized =
-      let z = product-sized binary64 (8 * 1 * one) 1 roundings (one8 ⊗ side u a ⊗ side v b) (side w c) (sideUnits u a * sideUnits v b) (sideUnits w c)
-      (sideBound u a * sideBound v b) (sideBound w c) 3 1 (lit≤ tt) (lit≤ tt) (two-sides .sized) (side-sized w c C) slack-four
-      (le-trans (mul-le-mul-right 8 (bound-between .1)) (lit≤ tt)) (inr (le-trans (lit≤ tt) (bound-between .0))) in
+      let room = le-trans (mul-le-mul-right 8 (bound-between .1)) (lit≤ tt) in
+      let normal = inr (le-trans (lit≤ tt) (bound-between .0)) in
+      let z = product-sized (square inEighths 1) 1 (lit≤ tt) (lit≤ tt) (two-sides .sized) (side-sized w c C) slack-four room normal in
       record { sized = z .sized; sign-is = z .sign-is ∙ ap₂ unlike (two-sides .sign-is) (side-rounded w c C .sign) }

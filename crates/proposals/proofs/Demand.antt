@@ -2,15 +2,13 @@
 use Prim.Native.Nat.{ℕ, zero, suc, _<_}
 use native.Mathlib.Nat.{not-suc-le-zero, le-of-suc-le-suc}
 use mathlib.Core.Path.{_≡_, refl, sym, ap, subst}
-use mathlib.Core.Bool.{Bool, true, false, cond}
-use mathlib.Core.List.{List, [], _∷_, _++_, map}
-use lib.Dec.{T, ltb}
+use mathlib.Core.List.{List, [], _∷_, map}
 use lib.ListN.{length, getD, drop, List·getD-append}
 use lib.Ieee.{Float, binary64, fits}
 use mir.Val.{Val}
 use denote.Floats.{passes}
 use denote.Laws.{Is}
-use Rattle.answer.specs.Answer.{answered, refused, numberOf, left}
+use Rattle.answer.specs.Answer.{answered, numberOf, left}
 use Rattle.answer.proofs.Answers.{never}
 use Rattle.cell.specs.Newton.{coords}
 use Rattle.probe.specs.Demand.{Floats}
@@ -18,10 +16,11 @@ use Rattle.probe.proofs.Arguments.{point-fits}
 use Rattle.probe.proofs.Demand.{demand}
 use Rattle.probe.proofs.Refusals.{zero-accepts}
 use Rattle.proposals.specs.Demand.{ZeroIsNear, NearIsZero}
-use Rattle.proposals.specs.Judgements.{judgement, unlessRefused, zerosIn, turnsOf}
+use Rattle.proposals.specs.Judgements.{judgement, unlessRefused, zerosIn}
+use Rattle.proposals.specs.Turns.{turnsOf}
 use Rattle.proposals.specs.declared.Proposal.{Proposal}
 use Rattle.proposals.proofs.Proposal as P
-use Rattle.proposals.proofs.Written.{all-turns}
+use Rattle.proposals.proofs.Written.{ladder, all-turns}
 
 -- what a record and its number owe
 abbrev pub Owed : List Float → Proposal → ℕ → Type 0
@@ -46,12 +45,9 @@ map-at f (x ∷ xs) (suc k) d e below = map-at f xs k d e (le-of-suc-le-suc belo
 -- what each turn has shown of its number holds of the numbers that a judged list leaves
 pub each-left : (n room : ℕ) (js old : List ℕ) (Q : ℕ → ℕ → Type 0) → length js ≡ n → ((k : ℕ) → k < turnsOf n room → Q k (getD js k 0))
     → (z : ℕ) → zerosIn (unlessRefused n room js) ≡ answered z → (k : ℕ) → k < n → Q k (getD (left (unlessRefused n room js) old) k 0)
-each-left n room js old Q long turn = by (ltb 256 n) (ltb room n) refl refl
-  where
-    by : (y w : Bool) → ltb 256 n ≡ y → ltb room n ≡ w → (z : ℕ) → zerosIn (cond y (refused 7) (cond w (refused 8) (answered js))) ≡ answered z
-        → (k : ℕ) → k < n → Q k (getD (left (cond y (refused 7) (cond w (refused 8) (answered js))) old) k 0)
-    by true w few fits z e k below = absurd (never 7 z e)
-    by false true few fits z e k below = absurd (never 8 z e)
-    by false false few fits z e k below =
-        let mine : k < turnsOf n room = rw (all-turns n room few fits) below in
-        subst (Q k) (sym (List·getD-append js (drop (length js) old) 0 k (subst (λ (m : ℕ). k < m) (sym long) below))) (turn k mine)
+each-left n room js old Q long turn z e k below =
+    ladder n room (λ seven. absurd (never 7 z (simp seven at e))) (λ seven eight. absurd (never 8 z (simp (seven, eight) at e)))
+    (λ seven eight.
+    let mine : k < turnsOf n room = rw (all-turns n room seven eight) below in
+    simp (seven, eight)
+    (subst (Q k) (sym (List·getD-append js (drop (length js) old) 0 k (subst (λ (m : ℕ). k < m) (sym long) below))) (turn k mine)))

@@ -10,12 +10,23 @@ use lib.Dec.{T, eqb, ltb, lit<}
 use lib.ListN.{length, getD, set, take, drop, length-map, List·getD-map}
 use lib.Seq.{length-take-le, length-front, take-length, paste-suc}
 use borrow.Author.Tests.{ltb-false}
-use Rattle.answer.specs.Answer.{answered, refused, left}
-use Rattle.proposals.specs.Judgements.{unlessRefused, zeros, zerosIn, orNone, turnsOf}
+use Rattle.answer.specs.Answer.{left}
+use Rattle.proposals.specs.Judgements.{unlessRefused, zeros, zerosIn}
+use Rattle.proposals.specs.Turns.{turnsOf}
 
 -- the place of element i, in bytes, is a usize
 pub place-fits : (i n size : ℕ) → i < n → n * size < 2 ^ 63 → i * size < 2 ^ 64
 place-fits i n size below room = lt-of-le-of-lt (mul-le-mul-right size (le-of-lt below)) (lt-trans room (lit< tt))
+
+-- a list is too long, or its output is too short, or it is judged
+pub ladder : {P : Type 0} (n room : ℕ) → (ltb 256 n ≡ true → P) → (ltb 256 n ≡ false → ltb room n ≡ true → P)
+    → (ltb 256 n ≡ false → ltb room n ≡ false → P) → P
+ladder {P} n room long short judged = by (ltb 256 n) (ltb room n) refl refl
+  where
+    by : (y z : Bool) → ltb 256 n ≡ y → ltb room n ≡ z → P
+    by true z seven eight = long seven
+    by false true seven eight = short seven eight
+    by false false seven eight = judged seven eight
 
 -- no more turns than records, numbers that have room, and 256
 pub record Few (n room turns : ℕ) : Type 0 where
@@ -23,19 +34,19 @@ pub record Few (n room turns : ℕ) : Type 0 where
   pub in-room : turns ≤ room
   pub small : turns ≤ 256
 
-few-by : (n room : ℕ) (long short : Bool) → ltb 256 n ≡ long → ltb room n ≡ short → Few n room (orNone (cond long (refused 7) (cond short (refused 8) (answered n))))
-few-by n room true short e f = record { in-list = zero-le; in-room = zero-le; small = zero-le }
-few-by n room false true e f = record { in-list = zero-le; in-room = zero-le; small = zero-le }
-few-by n room false false e f = record { in-list = le-refl n; in-room = ltb-false _ _ f; small = ltb-false _ _ e }
-
 pub few : (n room : ℕ) → Few n room (turnsOf n room)
 unfolding turnsOf
-few n room = few-by n room (ltb 256 n) (ltb room n) refl refl
+few n room =
+    ladder n room (λ seven. simp seven (omega arith)) (λ seven eight. simp (seven, eight) (omega arith))
+    (λ seven eight.
+    let short = ltb-false 256 n seven in
+    let fits = ltb-false room n eight in
+    simp (seven, eight) (omega arith))
 
 -- of a list that is not refused every record has its turn
 pub all-turns : (n room : ℕ) → ltb 256 n ≡ false → ltb room n ≡ false → turnsOf n room ≡ n
 unfolding turnsOf
-all-turns n room short fits = rw (short, fits)
+all-turns n room short fits = simp (short, fits)
 
 -- what stands in a list of which the first k numbers are written over
 abbrev pub overwritten : List ℕ → List ℕ → ℕ → List ℕ
@@ -91,19 +102,8 @@ module _ (n room : ℕ) (js : List ℕ) (all : length js ≡ n) where
   -- a refused list has no turn, and the count is then as good as any
   pub all-counted : unlessRefused n room (zeros (take (turnsOf n room) js)) ≡ zerosIn (unlessRefused n room js)
   unfolding turnsOf
-  all-counted = by (ltb 256 n) (ltb room n)
-    where
-      by : (y z : Bool) → cond y (refused 7) (cond z (refused 8) (answered (zeros (take (orNone (cond y (refused 7) (cond z (refused 8) (answered n)))) js))))
-          ≡ zerosIn (cond y (refused 7) (cond z (refused 8) (answered js)))
-      by true z = refl
-      by false true = refl
-      by false false = rw all-taken
+  all-counted = ladder n room (λ seven. simp seven) (λ seven eight. simp (seven, eight)) (λ seven eight. simp (seven, eight, all-taken))
 
   pub all-written : (old : List ℕ) → overwritten js old (turnsOf n room) ≡ left (unlessRefused n room js) old
   unfolding turnsOf
-  all-written old = by (ltb 256 n) (ltb room n)
-    where
-      by : (y z : Bool) → overwritten js old (orNone (cond y (refused 7) (cond z (refused 8) (answered n)))) ≡ left (cond y (refused 7) (cond z (refused 8) (answered js))) old
-      by true z = refl
-      by false true = refl
-      by false false = rw (all-taken, all)
+  all-written old = ladder n room (λ seven. simp seven) (λ seven eight. simp (seven, eight)) (λ seven eight. simp (seven, eight, all-taken, all))

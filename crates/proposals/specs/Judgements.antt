@@ -32,14 +32,6 @@ zeros js = sumOver (λ (j : ℕ). cond (eqb j 0) 1 0) js
 abbrev pub zerosIn : Answer (List ℕ) → Answer ℕ
 zerosIn found = andThen found (λ (js : List ℕ). answered (zeros js))
 
--- how many records are looked at: all, or none of a list that is refused
-abbrev pub orNone : Answer ℕ → ℕ
-orNone (answered n) = n
-orNone (refused number) = 0
-
-unfoldable pub turnsOf : ℕ → ℕ → ℕ
-turnsOf n room = orNone (unlessRefused n room n)
-
 -- the number or the count of each case
 abbrev pub told : Judged → Answer ℕ
 told (Accepted n) = answered n

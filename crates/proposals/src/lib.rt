@@ -6,7 +6,8 @@ ghost use mathlib.Core.Path.{_≡_};
 ghost use lib.ListN.{length};
 ghost use Rattle.answer.specs.Answer.{answered, left};
 ghost use Rattle.proposals.specs.Demand.{ZeroIsNear, NearIsZero, Each};
-ghost use Rattle.proposals.specs.Judgements.{judgement, judgements, unlessRefused, zerosIn, turnsOf, told};
+ghost use Rattle.proposals.specs.Judgements.{judgement, judgements, unlessRefused, zerosIn, told};
+ghost use Rattle.proposals.specs.Turns.{turnsOf};
 
 // A proposed place, and how far its image may be from the probe on each axis.
 #[repr(C)]

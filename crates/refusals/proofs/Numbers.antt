@@ -11,6 +11,7 @@ use Rattle.answer.proofs.Answers.{refuses-unless, refuses-else, refuses-then}
 use Rattle.faults.specs.Faults.{inRange, different, fault, faultAt, orElse, firstTo, firstFault, node}
 use Rattle.cell.specs.Points.{pointCount, notWhole, notOneTo16}
 use Rattle.cell.proofs.Refusals.{inverse-refuses, step-refuses, locate-refuses}
+use Rattle.hex_locate.proofs.Refusals.{located-refuses}
 use Rattle.prism_image.specs.Image.{imageAt, jacobianAt}
 use Rattle.prism_locate.specs.Locate.{step, start, inside, located}
 use Rattle.probe.proofs.Refusals as Probe
@@ -93,7 +94,7 @@ pub refusals-numbered : RefusalsNumbered
 refusals-numbered =
     record {
       ofInverse = λ m. inverse-refuses (1 ∷ []) m tt;
-      ofHexLocator = λ p. Probe.located-refuses (1 ∷ 2 ∷ []) p tt tt;
+      ofHexLocator = λ p. located-refuses (1 ∷ 2 ∷ []) p tt tt;
       ofPrismLocator = prism-located;
       ofGradient = λ p points i j k.
           let n = pointCount 2 points in

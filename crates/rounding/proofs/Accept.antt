@@ -12,7 +12,7 @@ use lib.Ieee.{Float, Format, prec, neg, le}
 use Rattle.binary64.specs.Exact.{sizeIn}
 use Rattle.rounding.proofs.Within.{Within, within-scaled, within-unscaled}
 use Rattle.rounding.proofs.Units.{plus, minus}
-use Rattle.rounding.proofs.Products.{Image}
+use Rattle.rounding.proofs.Products.{Fraction, Image}
 use Rattle.rounding.proofs.Order.{Tolerance, near-units}
 use Rattle.rounding.proofs.Exact.{Balance, size-of-balance}
 
@@ -29,22 +29,21 @@ module _ (p n t d B up down E g : ℕ) (image : Within ((p * d + down) * B) ((n 
   near-then-test pos (inl e) h = within-unscaled {m = d * B} pos (omega (arith, ap (λ (x : ℕ). x * B) e))
   near-then-test pos (inr e) h = within-unscaled {m = d * B} pos (omega (arith, ap (λ (x : ℕ). x * B) e))
 
--- ---- of the float image z, the exact sum Z / d and the tolerance t
+-- ---- of the float image z, the exact sum Z / whole and the tolerance t
 module _
-    (f : Format) (d : ℕ) (z : Float) (Z : ℤ) (up down E : ℕ) (t : Float)
-    (image : Image f d z up down E) (balance : Balance Z up down) (tol : Tolerance f t)
+    {f : Format} {z t : Float} {x : Fraction} {Z : ℤ} {E : ℕ} (image : Image f z x E) (balance : Balance Z (x .up) (x .down)) (tol : Tolerance f t)
   where
     abbrev B : ℕ
     B = 2 ^ prec f
 
-    pub accepted-near : T (le z t && le (neg z) t) → natAbs Z * B ≤ sizeIn f t * d * B + E
+    pub accepted-near : T (le z t && le (neg z) t) → natAbs Z * B ≤ sizeIn f t * x .whole * B + E
     accepted-near h =
-        let apart = size-of-balance Z up down balance in
-        test-then-near (plus f z) (minus f z) (sizeIn f t) d B up down E (natAbs Z) (image .close) apart (near-units f z t (image .held) tol .0 h)
+        let apart = size-of-balance Z (x .up) (x .down) balance in
+        test-then-near (plus f z) (minus f z) (sizeIn f t) (x .whole) B (x .up) (x .down) E (natAbs Z) (image .close) apart (near-units f z t (image .held) tol .0 h)
 
-    pub near-accepted : 0 < d → natAbs Z * B + E ≤ sizeIn f t * d * B → T (le z t && le (neg z) t)
+    pub near-accepted : 0 < x .whole → natAbs Z * B + E ≤ sizeIn f t * x .whole * B → T (le z t && le (neg z) t)
     near-accepted pos h =
-        let apart = size-of-balance Z up down balance in
+        let apart = size-of-balance Z (x .up) (x .down) balance in
         let positive = mul-pos pos (pow-pos (prec f)) in
         near-units f z t (image .held) tol .1
-        (near-then-test (plus f z) (minus f z) (sizeIn f t) d B up down E (natAbs Z) (image .close) positive apart h)
+        (near-then-test (plus f z) (minus f z) (sizeIn f t) (x .whole) B (x .up) (x .down) E (natAbs Z) (image .close) positive apart h)

@@ -19,7 +19,7 @@ use Rattle.rounding.proofs.Units.{Held, Is, is-of-value, own-value, Dig
 use Rattle.rounding.proofs.Round.{Rounded, rounded-of, round-near, round-units}
 use Rattle.rounding.proofs.Add.{add-units}
 use Rattle.rounding.proofs.Mul.{mul-units, square-pos}
-use Rattle.rounding.proofs.Weight.{Sized, Times}
+use Rattle.rounding.proofs.Estimate.{Scale, over, fine, Estimate, Sized, Times}
 
 -- ---- one plus a coordinate
 abbrev one : Float
@@ -62,11 +62,15 @@ module _ (f : Format) (r : Float) (held : Held f r) (small : sizeIn f r ≤ 2 ^ 
       (round-units f false exact (le-trans (mul-le-mul-right 2 exact-most) (four-in-range f)))
 
 -- a rounded number of units is near it by one rounding, and so by a larger bound
-pub rounded-sized : (f : Format) (k : ℕ) (x : Float) (s : Bool) (n extra : ℕ) → T (fits f x) → Rounded f x s n 1 n → Sized f 1 k x n (n + extra) 1
-rounded-sized f k x s n extra in-format r =
+abbrev pub roundedOnce : ℕ → ℕ → Estimate
+roundedOnce n extra = record { exact = n; bound = n + extra; roundings = 1 }
+
+pub rounded-sized : (s : Scale) {x : Float} {sign : Bool} {n : ℕ} (extra : ℕ) → T (fits (s .format) x) → Rounded (s .format) x sign n 1 n
+    → Sized (over s 1) x (roundedOnce n extra)
+rounded-sized s extra in-format r =
     record {
       held = record { in-format = in-format; is-finite = r .is-finite };
-      close = omega (arith, mul-le-mul-right (2 ^ prec f) (r .close .over), mul-le-mul-right (2 ^ prec f) (r .close .under));
+      close = omega (arith, mul-le-mul-right (fine s) (r .close .over), mul-le-mul-right (fine s) (r .close .under));
       bounded = omega arith;
     }
 
@@ -161,17 +165,17 @@ module _ (f : Format) (x : Float) (held : Held f x) where
       go d = pick d (leb 3 (d .exponent)) (leb→le 3 (d .exponent)) (nleb→lt 3 (d .exponent))
 
 -- so an eighth of a rounded number of units is near an eighth of it by one rounding, by a bound that has room for four units
-pub eighth-sized : (f : Format) (k : ℕ) (x : Float) (s : Bool) (n extra : ℕ) → Held f x → Rounded f x s n 1 n → 4 * 2 ^ prec f ≤ extra
-    → Times f 8 k (mul f eighth x) s n (n + extra) 1
+pub eighth-sized : (s : Scale) {x : Float} {sign : Bool} {n extra : ℕ} → Held (s .format) x → Rounded (s .format) x sign n 1 n → 4 * fine s ≤ extra
+    → Times (over s 8) (mul (s .format) eighth x) sign (roundedOnce n extra)
 unfolding isNegative
-eighth-sized f k x s n extra held r room =
-    let z = eighth-close f x held in
-    let part = within-scaled (2 ^ prec f) (z .close) in
-    let whole = within-scaled (2 ^ prec f) (r .close) in
+eighth-sized s {x} held r room =
+    let z = eighth-close (s .format) x held in
+    let part = within-scaled (fine s) (z .close) in
+    let whole = within-scaled (fine s) (r .close) in
     record {
       sized = record {
-        held = record { in-format = mul-fits f eighth x; is-finite = z .is-finite };
-        close = omega (arith, part, whole, mul-le-mul-right (2 ^ prec f) room);
+        held = record { in-format = mul-fits (s .format) eighth x; is-finite = z .is-finite };
+        close = omega (arith, part, whole, mul-le-mul-right (fine s) room);
         bounded = omega arith;
       };
       sign-is = z .sign ∙ unlike-plus (isNegative x) ∙ r .sign;

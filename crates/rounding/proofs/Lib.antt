@@ -4,6 +4,7 @@ pub mod Units
 pub mod Round
 pub mod Add
 pub mod Mul
+pub mod Estimate
 pub mod Sum
 pub mod Weight
 pub mod Products

@@ -14,22 +14,38 @@ use Rattle.binary64.specs.Exact.{sizeIn, isNegative}
 use Rattle.rounding.proofs.Within.{Within, within-as, within-unscaled, within-wider}
 use Rattle.rounding.proofs.Units.{Held, gain, loss, plus, minus, unlike-plus}
 use Rattle.rounding.proofs.Mul.{mul-near}
-use Rattle.rounding.proofs.Sum.{cost, Near, later, sums-near}
-use Rattle.rounding.proofs.Weight.{Sized, Slack, Times, product-sized}
+use Rattle.rounding.proofs.Estimate.{Scale, over, fine, cost, Estimate, Sized, Times, times, square, Signed, Near}
+use Rattle.rounding.proofs.Sum.{later, sums-near}
+use Rattle.rounding.proofs.Weight.{Slack, product-sized}
 
 -- not below zero: the sign is plus, or the value is a zero of either sign
 abbrev pub NonNegative : Format → Float → Type 0
 NonNegative f x = (isNegative x ≡ false) ⊎ (sizeIn f x ≡ 0)
 
--- What the law asks of a corner: its weight is exact / d but for j roundings of bound / d; times the corner, the bound is zero or in the normal range, and
--- far from overflow; and the corner is at most M units in size.
-pub record Term (f : Format) (d k j M : ℕ) (weight corner : Float) (exact bound : ℕ) : Type 0 where
-  pub sized : Sized f d k weight exact bound j
-  pub nonneg : NonNegative f weight
-  pub held : Held f corner
-  pub room : bound * sizeIn f corner * 8 ≤ overflow f * 2 ^ low f * d
-  pub normal : (bound * sizeIn f corner ≡ 0) ⊎ (2 ^ (prec f - 1) * 2 ^ low f * d ≤ bound * sizeIn f corner)
-  pub most : sizeIn f corner ≤ M
+-- What the law asks of a corner: its weight is near its estimate; times the corner, the bound is zero or in the normal range, and far from overflow; and the
+-- corner is at most M units in size.
+pub record Term (s : Scale) (M : ℕ) (weight corner : Float) (e : Estimate) : Type 0 where
+  pub sized : Sized s weight e
+  pub nonneg : NonNegative (s .format) weight
+  pub held : Held (s .format) corner
+  pub room : e .bound * sizeIn (s .format) corner * 8 ≤ overflow (s .format) * 2 ^ low (s .format) * s .whole
+  pub normal :
+      (e .bound * sizeIn (s .format) corner ≡ 0)
+      ⊎ (2 ^ (prec (s .format) - 1) * 2 ^ low (s .format) * s .whole ≤ e .bound * sizeIn (s .format) corner)
+  pub most : sizeIn (s .format) corner ≤ M
+
+-- weight times corner, rounded once more, is counted in parts of a square unit
+abbrev weighted : Format → Estimate → Float → Signed
+weighted f e corner =
+    record {
+      up = e .exact * plus f corner;
+      down = e .exact * minus f corner;
+      bound = e .bound * sizeIn f corner;
+      roundings = suc (e .roundings);
+    }
+
+abbrev pub ofProducts : Scale → Scale
+ofProducts s = over s (s .whole * 2 ^ low (s .format))
 
 -- ---- in numbers: a size near an exact one, with the sign u of both, is near it on both sides
 module _ (X D w c t : ℕ) where
@@ -50,9 +66,11 @@ module _ (X D w c t : ℕ) where
 
 -- ---- one product is a term of the sum
 module _
-    (f : Format) (d k j M : ℕ) (weight corner : Float) (exact bound : ℕ) (pos : 0 < d) (slack : Slack f k j 0)
-    (term : Term f d k j M weight corner exact bound)
+    (s : Scale) (M : ℕ) {weight corner : Float} {e : Estimate} (pos : 0 < s .whole) (slack : Slack s (e .roundings) 0) (term : Term s M weight corner e)
   where
+    abbrev f : Format
+    f = s .format
+
     abbrev z : Float
     z = mul f weight corner
 
@@ -60,50 +78,56 @@ module _
     X = sizeIn f corner
 
     abbrev D : ℕ
-    D = d * 2 ^ low f
+    D = s .whole * 2 ^ low f
 
     abbrev c : ℕ
-    c = 2 ^ prec f * 2 ^ prec f
+    c = fine s * fine s
+
+    -- what is lost of a product
+    abbrev t : ℕ
+    t = cost s (suc (e .roundings)) * (e .bound * X)
 
     -- the corner is its own size, with no rounding
-    corner-sized : Sized f 1 k corner X X 0
+    abbrev itself : Estimate
+    itself = record { exact = X; bound = X; roundings = 0 }
+
+    corner-sized : Sized (over s 1) corner itself
     corner-sized = record { held = term .held; close = omega arith; bounded = le-refl X }
 
-    times : Times f (d * 1 * 2 ^ low f) k z (unlike (isNegative weight) (isNegative corner)) (exact * X) (bound * X) (suc (j + 0))
-    times =
-        product-sized f d 1 k weight corner exact X bound X j 0 pos (pow-pos 0) (term .sized) corner-sized slack (omega (arith, term .room))
+    multiplied : Times (square s 1) z (unlike (isNegative weight) (isNegative corner)) (times e itself)
+    multiplied =
+        product-sized s 1 pos (pow-pos 0) (term .sized) corner-sized slack (omega (arith, term .room))
         (elim (term .normal) [ inl none ↦ inl none | inr normal ↦ inr (omega arith) ])
 
-    size-close : Within (sizeIn f z * D * c) (exact * X * c) (cost f k (suc j) * (bound * X))
+    size-close : Within (sizeIn f z * D * c) (e .exact * X * c) t
     size-close =
-        within-as (ap (λ (m : ℕ). sizeIn f z * (m * 2 ^ low f) * c) (mul-one d)) refl (ap (λ (m : ℕ). cost f k (suc m) * (bound * X)) (add-zero j))
-        (times .sized .close)
+        within-as (ap (λ (m : ℕ). sizeIn f z * (m * 2 ^ low f) * c) (mul-one (s .whole))) refl
+        (ap (λ (m : ℕ). cost s (suc m) * (e .bound * X)) (add-zero (e .roundings))) (multiplied .sized .close)
 
     nothing : sizeIn f weight ≡ 0 → sizeIn f z ≡ 0
     nothing none =
-        let product : sizeIn f weight * X ≡ 0 = ap (λ (m : ℕ). m * X) none ∙ zero-mul X in
-        let exact = mul-near f weight corner 1 0 (term .sized .held) (term .held) (pow-pos 0) (omega arith) (omega arith) (inl product) in
-        let parts = 2 ^ low f * 2 ^ prec f in
-        let small : sizeIn f z * parts ≤ 0 * parts = omega (arith, exact .close .over, ap (λ (m : ℕ). m * 2 ^ prec f) product) in
+        let zeros : sizeIn f weight * X ≡ 0 = ap (λ (m : ℕ). m * X) none ∙ zero-mul X in
+        let exact = mul-near f weight corner 1 0 (term .sized .held) (term .held) (pow-pos 0) (omega arith) (omega arith) (inl zeros) in
+        let parts = 2 ^ low f * fine s in
+        let small : sizeIn f z * parts ≤ 0 * parts = omega (arith, exact .close .over, ap (λ (m : ℕ). m * fine s) zeros) in
         le-zero (le-of-mul-le-mul-right {k = parts} small (mul-pos (pow-pos (low f)) (pow-pos (prec f))))
 
-    both-sides : NonNegative f weight
-        → Within ((plus f z * D + exact * minus f corner) * c) ((minus f z * D + exact * plus f corner) * c) (cost f k (suc j) * (bound * X))
+    both-sides : NonNegative f weight → Within ((plus f z * D + e .exact * minus f corner) * c) ((minus f z * D + e .exact * plus f corner) * c) t
     unfolding plus minus
     both-sides (inl sign) =
         let plain = ap (λ (s : Bool). unlike s (isNegative corner)) sign ∙ unlike-plus (isNegative corner) in
-        let same : isNegative z ≡ isNegative corner = times .sign-is ∙ plain in
-        rw same (signed X D exact c (cost f k (suc j) * (bound * X)) (isNegative corner) (sizeIn f z) size-close)
+        let same : isNegative z ≡ isNegative corner = multiplied .sign-is ∙ plain in
+        rw same (signed X D (e .exact) c t (isNegative corner) (sizeIn f z) size-close)
     both-sides (inr none) =
-        rw (nothing none) (signed-zero X D exact c (cost f k (suc j) * (bound * X)) (isNegative z) (isNegative corner) (rw (nothing none) at size-close))
+        rw (nothing none) (signed-zero X D (e .exact) c t (isNegative z) (isNegative corner) (rw (nothing none) at size-close))
 
-    term-near : Near f D k z (exact * plus f corner) (exact * minus f corner) (bound * X) (suc j)
+    term-near : Near (ofProducts s) z (weighted f e corner)
     unfolding plus minus
     term-near =
         record {
-          held = times .sized .held;
+          held = multiplied .sized .held;
           close = both-sides (term .nonneg);
-          bounded = sides X D exact c 0 (isNegative corner) bound (term .sized .bounded);
+          bounded = sides X D (e .exact) c 0 (isNegative corner) (e .bound) (term .sized .bounded);
         }
 
 -- ---- the sum of n + 1 products
@@ -117,52 +141,73 @@ fold-most (suc n) M a b r v h each =
     let first = each 0 (zero-lt-suc n) in
     fold-most n M (a + r 0) (b + v 0) (later r) (later v) (omega arith) (λ (m : ℕ) (below : m < n). each (suc m) (suc-le-suc below))
 
--- z is (up - down) / d units, but for error / d of the 2 ^ prec-th part of a unit
-pub record Image (f : Format) (d : ℕ) (z : Float) (up down error : ℕ) : Type 0 where
+-- (up - down) / whole units
+pub record Fraction : Type 0 where
+  pub up : ℕ
+  pub down : ℕ
+  pub whole : ℕ
+
+-- z is the exact fraction, but for error / whole of the 2 ^ prec-th part of a unit
+pub record Image (f : Format) (z : Float) (exact : Fraction) (error : ℕ) : Type 0 where
   pub held : Held f z
-  pub close : Within ((plus f z * d + down) * 2 ^ prec f) ((minus f z * d + up) * 2 ^ prec f) error
+  pub close : Within ((plus f z * exact .whole + exact .down) * 2 ^ prec f) ((minus f z * exact .whole + exact .up) * 2 ^ prec f) error
+
+-- The weights of corners, and what they stand for: value m is near exact m parts, by so many roundings of bound m parts.
+pub record Weights : Type 0 where
+  pub value : ℕ → Float
+  pub exact : ℕ → ℕ
+  pub bound : ℕ → ℕ
+  pub roundings : ℕ
+
+abbrev pub estimate : Weights → ℕ → Estimate
+estimate w m = record { exact = w .exact m; bound = w .bound m; roundings = w .roundings }
 
 module _
-    (f : Format) (d k j M : ℕ) (pos : 0 < d) (few : k ≤ 2 ^ prec f) (slack : Slack f k j 0) (n : ℕ) (weight corner : ℕ → Float) (exact bound : ℕ → ℕ)
-    (terms : (m : ℕ) → m < suc n → Term f d k j M (weight m) (corner m) (exact m) (bound m))
+    (s : Scale) (M n : ℕ) (w : Weights) (corner : ℕ → Float) (pos : 0 < s .whole) (few : s .spare ≤ fine s) (slack : Slack s (w .roundings) 0)
+    (terms : (m : ℕ) → m < suc n → Term s M (w .value m) (corner m) (estimate w m))
   where
-    abbrev whole : ℕ
-    whole = d * 2 ^ low f
-
     abbrev bulk : ℕ
-    bulk = gathered _+_ n bound
+    bulk = gathered _+_ n (w .bound)
 
     abbrev product : ℕ → Float
-    product m = mul f (weight m) (corner m)
+    product m = mul (s .format) (w .value m) (corner m)
 
-    abbrev up : ℕ → ℕ
-    up m = exact m * plus f (corner m)
-
-    abbrev down : ℕ → ℕ
-    down m = exact m * minus f (corner m)
+    abbrev part : ℕ → Signed
+    part m = weighted (s .format) (estimate w m) (corner m)
 
     abbrev sizes : ℕ → ℕ
-    sizes m = bound m * sizeIn f (corner m)
+    sizes m = part m .bound
+
+    abbrev exact : Fraction
+    exact =
+        record {
+          up = gathered _+_ n (λ (m : ℕ). part m .up);
+          down = gathered _+_ n (λ (m : ℕ). part m .down);
+          whole = ofProducts s .whole;
+        }
 
     sizes-most : gathered _+_ n sizes ≤ M * bulk
     sizes-most =
-        fold-most n M (sizes 0) (bound 0) (later sizes) (later bound) (one 0 (zero-lt-suc n)) (λ (m : ℕ) (below : m < n). one (suc m) (suc-le-suc below))
+        fold-most n M (sizes 0) (w .bound 0) (later sizes) (later (w .bound)) (one 0 (zero-lt-suc n))
+        (λ (m : ℕ) (below : m < n). one (suc m) (suc-le-suc below))
       where
-        one : (m : ℕ) → m < suc n → bound m * sizeIn f (corner m) ≤ M * bound m
-        one m below = omega (arith, mul-le-mul-left (bound m) (terms m below .most))
+        one : (m : ℕ) → m < suc n → w .bound m * sizeIn (s .format) (corner m) ≤ M * w .bound m
+        one m below = omega (arith, mul-le-mul-left (w .bound m) (terms m below .most))
 
-    each-near : (m : ℕ) → m < suc n → Near f whole k (product m) (up m) (down m) (sizes m) (suc j)
-    each-near m below = term-near f d k j M (weight m) (corner m) (exact m) (bound m) pos slack (terms m below)
+    each-near : (m : ℕ) → m < suc n → Near (ofProducts s) (product m) (part m)
+    each-near m below = term-near s M pos slack (terms m below)
 
-    pub image-near : (error : ℕ) → cost f k (n + suc j) ≤ k * 2 ^ prec f → M * bulk * 4 ≤ overflow f * whole
-        → cost f k (n + suc j) * (M * bulk) ≤ error * 2 ^ prec f
-        → Image f whole (gathered (add f) n product) (gathered _+_ n up) (gathered _+_ n down) error
+    abbrev all : ℕ
+    all = cost s (n + suc (w .roundings))
+
+    pub image-near : (error : ℕ) → all ≤ s .spare * fine s → M * bulk * 4 ≤ overflow (s .format) * exact .whole → all * (M * bulk) ≤ error * fine s
+        → Image (s .format) (gathered (add (s .format)) n product) exact error
     image-near error spare room small =
-        let sum = sums-near f whole k (mul-pos pos (pow-pos (low f))) few n (later product) (later up) (later down) (later sizes)
-        (product 0) (up 0) (down 0) (sizes 0) (suc j) (suc j) (le-refl (suc j)) spare (le-trans (mul-le-mul-right 4 sizes-most) room)
-        (each-near 0 (zero-lt-suc n)) (λ (m : ℕ) (below : m < n). each-near (suc m) (suc-le-suc below)) in
-        let most = le-trans (mul-le-mul-left (cost f k (n + suc j)) sizes-most) small in
+        let units = mul-pos pos (pow-pos (low (s .format))) in
+        let sum = sums-near (ofProducts s) units few n (later product) (later part) (λ (m : ℕ) (below : m < n). le-refl _) spare
+        (le-trans (mul-le-mul-right 4 sizes-most) room) (each-near 0 (zero-lt-suc n)) (λ (m : ℕ) (below : m < n). each-near (suc m) (suc-le-suc below)) in
+        let most = le-trans (mul-le-mul-left all sizes-most) small in
         record {
           held = sum .held;
-          close = within-unscaled {m = 2 ^ prec f} (pow-pos (prec f)) (within-as (omega arith) (omega arith) refl (within-wider most (sum .close)));
+          close = within-unscaled {m = fine s} (pow-pos (prec (s .format))) (within-as (omega arith) (omega arith) refl (within-wider most (sum .close)));
         }

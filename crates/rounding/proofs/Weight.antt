@@ -4,7 +4,6 @@ use native.Mathlib.Nat.{le-trans, le-of-eq, mul-le-mul, mul-le-mul-right, mul-le
 use native.Mathlib.Omega.{arith}
 use mathlib.Core.Path.{_≡_, refl, ap, _∙_}
 use mathlib.Core.Logic.{_⊎_, inl, inr}
-use mathlib.Core.Bool.{Bool}
 use lib.Arith.{le-zero}
 use lib.Pow.{pow-pos}
 use lib.Ieee.{Float, Format, prec, low, unlike, mul}
@@ -12,43 +11,36 @@ use lib.Ieee.Fits.{mul-fits}
 use lib.Ieee.Scale.{overflow}
 use Rattle.binary64.specs.Exact.{sizeIn, isNegative}
 use Rattle.rounding.proofs.Within.{Within, within-as, within-trans, within-wider, within-scaled, within-unscaled}
-use Rattle.rounding.proofs.Units.{Held}
 use Rattle.rounding.proofs.Mul.{mul-near}
-use Rattle.rounding.proofs.Sum.{cost}
+use Rattle.rounding.proofs.Estimate.{Scale, over, fine, cost, Estimate, Sized, Times, times, square}
 
--- The size of x is a / d units, but for j roundings of s / d units. The bound s may be larger than a, where a rounding is not small beside the value:
--- in a difference, or below the normal range.
-pub record Sized (f : Format) (d k : ℕ) (x : Float) (a s j : ℕ) : Type 0 where
-  pub held : Held f x
-  pub close : Within (sizeIn f x * d * (2 ^ prec f * 2 ^ prec f)) (a * (2 ^ prec f * 2 ^ prec f)) (cost f k j * s)
-  pub bounded : a ≤ s
+-- What `spare` has to leave room for. With errors of e and e' parts in c, (1 + e / c) (1 + e' / c) (1 + 1 / B) is at most 1 + the error of one rounding more.
+pub record Slack (s : Scale) (i j : ℕ) : Type 0 where
+  pub growth : let B = fine s in let c = B * B in (c + cost s i) * (c + cost s j) * (B + 1) ≤ (c + cost s (suc (i + j))) * (c * B)
+  pub left : cost s i ≤ fine s * fine s
+  pub right : cost s j ≤ fine s * fine s
 
--- What k has to leave room for. With errors of e and e' parts in c, (1 + e / c) (1 + e' / c) (1 + 1 / B) is at most 1 + the error of one rounding more.
-pub record Slack (f : Format) (k i j : ℕ) : Type 0 where
-  pub growth : let B = 2 ^ prec f in let c = B * B in (c + cost f k i) * (c + cost f k j) * (B + 1) ≤ (c + cost f k (suc (i + j))) * (c * B)
-  pub left : cost f k i ≤ 2 ^ prec f * 2 ^ prec f
-  pub right : cost f k j ≤ 2 ^ prec f * 2 ^ prec f
-
--- ---- in numbers: x and y are a and a' but for e parts in c of s, and e' parts of s'
+-- ---- in numbers: x and y are what they stand for but for e parts in c of the one's bound, and e' parts of the other's
 module _
-    (c e e' x y a a' s s' : ℕ) (X : Within (x * c) (a * c) (e * s)) (Y : Within (y * c) (a' * c) (e' * s')) (x-most : a ≤ s) (y-most : a' ≤ s')
+    (c e e' x y : ℕ) (a b : Estimate) (X : Within (x * c) (a .exact * c) (e * a .bound)) (Y : Within (y * c) (b .exact * c) (e' * b .bound))
+    (x-most : a .exact ≤ a .bound) (y-most : b .exact ≤ b .bound)
   where
-    x-bound : x * c ≤ (c + e) * s
+    x-bound : x * c ≤ (c + e) * a .bound
     x-bound = omega (arith, mul-le-mul-right c x-most)
 
-    y-bound : y * c ≤ (c + e') * s'
+    y-bound : y * c ≤ (c + e') * b .bound
     y-bound = omega (arith, mul-le-mul-right c y-most)
 
-    product-bound : x * y * (c * c) ≤ (c + e) * (c + e') * (s * s')
+    product-bound : x * y * (c * c) ≤ (c + e) * (c + e') * (a .bound * b .bound)
     product-bound = le-trans (le-of-eq (omega arith)) (le-trans (mul-le-mul x-bound y-bound) (le-of-eq (omega arith)))
 
-    x-moved : Within (x * c * (y * c)) (a * c * (y * c)) (e * s * ((c + e') * s'))
-    x-moved = within-wider (mul-le-mul-left (e * s) y-bound) (within-scaled (y * c) X)
+    x-moved : Within (x * c * (y * c)) (a .exact * c * (y * c)) (e * a .bound * ((c + e') * b .bound))
+    x-moved = within-wider (mul-le-mul-left (e * a .bound) y-bound) (within-scaled (y * c) X)
 
-    y-moved : Within (y * c * (a * c)) (a' * c * (a * c)) (e' * s' * (s * c))
-    y-moved = within-wider (mul-le-mul-left (e' * s') (mul-le-mul-right c x-most)) (within-scaled (a * c) Y)
+    y-moved : Within (y * c * (a .exact * c)) (b .exact * c * (a .exact * c)) (e' * b .bound * (a .bound * c))
+    y-moved = within-wider (mul-le-mul-left (e' * b .bound) (mul-le-mul-right c x-most)) (within-scaled (a .exact * c) Y)
 
-    product-close : Within (x * y * (c * c)) (a * a' * (c * c)) ((e * (c + e') + c * e') * (s * s'))
+    product-close : Within (x * y * (c * c)) (a .exact * b .exact * (c * c)) ((e * (c + e') + c * e') * (a .bound * b .bound))
     product-close = within-as (omega arith) (omega arith) (omega arith) (within-trans x-moved (within-as (omega arith) refl refl y-moved))
 
 -- z is n but for one rounding of it, and n is the product q of the exact sizes but for what the two errors make of it
@@ -66,21 +58,26 @@ regroup : (z l d c B : ℕ) → z * (l * (d * c)) * B ≡ z * (d * l) * c * B
 regroup z l d c B = omega arith
 
 -- ---- of values
-pub record Times (f : Format) (d k : ℕ) (z : Float) (sign : Bool) (a s j : ℕ) : Type 0 where
-  pub sized : Sized f d k z a s j
-  pub sign-is : isNegative z ≡ sign
-
 module _
-    (f : Format) (d d' k : ℕ) (x y : Float) (a a' s s' i j : ℕ) (pos : 0 < d) (pos' : 0 < d') (X : Sized f d k x a s i) (Y : Sized f d' k y a' s' j)
+    (s : Scale) (d' : ℕ) {x y : Float} {a b : Estimate} (pos : 0 < s .whole) (pos' : 0 < d') (X : Sized s x a) (Y : Sized (over s d') y b)
   where
+    abbrev f : Format
+    f = s .format
+
+    abbrev d : ℕ
+    d = s .whole
+
     abbrev c : ℕ
-    c = 2 ^ prec f * 2 ^ prec f
+    c = fine s * fine s
 
     abbrev e : ℕ
-    e = cost f k i
+    e = cost s (a .roundings)
 
     abbrev e' : ℕ
-    e' = cost f k j
+    e' = cost s (b .roundings)
+
+    abbrev z : Estimate
+    z = times a b
 
     -- the scale in which everything is whole
     abbrev D : ℕ
@@ -96,15 +93,15 @@ module _
     n = sizeIn f x * sizeIn f y
 
     abbrev w : ℕ
-    w = (c + e) * (c + e') * (s * s')
+    w = (c + e) * (c + e') * z .bound
 
     most : n * D ≤ w
     most =
         le-trans (le-of-eq (omega arith))
-        (product-bound c e e' (sizeIn f x * d) (sizeIn f y * d') a a' s s' (X .close) (Y .close) (X .bounded) (Y .bounded))
+        (product-bound c e e' (sizeIn f x * d) (sizeIn f y * d') a b (X .close) (Y .close) (X .bounded) (Y .bounded))
 
     abbrev Normal : Type 0
-    Normal = (s * s' ≡ 0) ⊎ (2 ^ (prec f - 1) * 2 ^ low f * (d * d') ≤ s * s')
+    Normal = (z .bound ≡ 0) ⊎ (2 ^ (prec f - 1) * 2 ^ low f * (d * d') ≤ z .bound)
 
     enough : Normal → (n ≡ 0) ⊎ (2 ^ (prec f - 1) * 2 ^ low f * D ≤ w)
     enough (inl none) =
@@ -113,23 +110,23 @@ module _
     enough (inr normal) = inr (omega (arith, mul-le-mul-right (c * c) normal))
 
     -- the product's own size Z
-    moved : (Z : ℕ) → Slack f k i j → Within (Z * (2 ^ low f * D) * 2 ^ prec f) (n * D * 2 ^ prec f) w
-        → Within (Z * (d * d' * 2 ^ low f) * c) (a * a' * c) (cost f k (suc (i + j)) * (s * s'))
+    moved : (Z : ℕ) → Slack s (a .roundings) (b .roundings) → Within (Z * (2 ^ low f * D) * fine s) (n * D * fine s) w
+        → Within (Z * (d * d' * 2 ^ low f) * c) (z .exact * c) (cost s (z .roundings) * z .bound)
     moved Z slack near =
-        let exact = product-close c e e' (sizeIn f x * d) (sizeIn f y * d') a a' s s' (X .close) (Y .close) (X .bounded) (Y .bounded) in
-        rounded-close (2 ^ prec f) c e e' (cost f k (suc (i + j))) (Z * (d * d' * 2 ^ low f)) (n * D) (a * a') (s * s') (mul-pos c-pos (pow-pos (prec f)))
-        (slack .growth) (within-as (regroup Z (2 ^ low f) (d * d') (c * c) (2 ^ prec f)) refl refl near) (within-as (omega arith) refl refl exact)
+        let exact = product-close c e e' (sizeIn f x * d) (sizeIn f y * d') a b (X .close) (Y .close) (X .bounded) (Y .bounded) in
+        rounded-close (fine s) c e e' (cost s (z .roundings)) (Z * (d * d' * 2 ^ low f)) (n * D) (z .exact) (z .bound) (mul-pos c-pos (pow-pos (prec f)))
+        (slack .growth) (within-as (regroup Z (2 ^ low f) (d * d') (c * c) (fine s)) refl refl near) (within-as (omega arith) refl refl exact)
 
-    pub product-sized : Slack f k i j → s * s' * 8 ≤ overflow f * 2 ^ low f * (d * d') → Normal
-        → Times f (d * d' * 2 ^ low f) k (mul f x y) (unlike (isNegative x) (isNegative y)) (a * a') (s * s') (suc (i + j))
+    pub product-sized : Slack s (a .roundings) (b .roundings) → z .bound * 8 ≤ overflow f * 2 ^ low f * (d * d') → Normal
+        → Times (square s d') (mul f x y) (unlike (isNegative x) (isNegative y)) (times a b)
     product-sized slack room normal =
-        let fits-in = room-enough c e e' (s * s') (overflow f * 2 ^ low f) (d * d') (slack .left) (slack .right) room in
-        let z = mul-near f x y D w (X .held) (Y .held) D-pos fits-in most (enough normal) in
+        let fits-in = room-enough c e e' (z .bound) (overflow f * 2 ^ low f) (d * d') (slack .left) (slack .right) room in
+        let product = mul-near f x y D w (X .held) (Y .held) D-pos fits-in most (enough normal) in
         record {
           sized = record {
-            held = record { in-format = mul-fits f x y; is-finite = z .is-finite };
-            close = moved (sizeIn f (mul f x y)) slack (z .close);
+            held = record { in-format = mul-fits f x y; is-finite = product .is-finite };
+            close = moved (sizeIn f (mul f x y)) slack (product .close);
             bounded = mul-le-mul (X .bounded) (Y .bounded);
           };
-          sign-is = z .sign;
+          sign-is = product .sign;
         }

@@ -54,7 +54,8 @@ use denote.Triple.Walked.{Stays, stay-dropped, gave-slice, walkOf, ends-at, walk
 use Rattle.answer.specs.Answer.{answered, left}
 use Rattle.rounding.proofs.Arguments.{array-fits}
 use Rattle.proposals.specs.Demand.{none, proposal}
-use Rattle.proposals.specs.Judgements.{judgement, judgements, unlessRefused, zeros, zerosIn, turnsOf, told}
+use Rattle.proposals.specs.Judgements.{judgement, judgements, unlessRefused, zeros, zerosIn, told}
+use Rattle.proposals.specs.Turns.{turnsOf}
 use Rattle.proposals.specs.declared.Proposal.{Proposal}
 use Rattle.proposals.specs.declared.Judged.{Judged}
 use Rattle.proposals.proofs.Proposal as P

@@ -2,28 +2,23 @@
 use Prim.Native.Nat.{ℕ}
 use mathlib.Core.Path.{_≡_, refl}
 use mathlib.Core.Bool.{Bool, true, false, _||_, cond}
-use lib.Dec.{ltb}
 use Rattle.answer.specs.Answer.{answered, refused}
-use Rattle.proposals.specs.Judgements.{orNone, turnsOf}
+use Rattle.proposals.specs.Turns.{orNone, turnsOf}
 use Rattle.proposals.proofs.turns.Statement.{statement}
 use Rattle.proposals.proofs.turns.Tie as tie
 
-by : (n : ℕ) (long short : Bool) → cond (long || short) 0 n ≡ orNone (cond long (refused 7) (cond short (refused 8) (answered n)))
-by n true short = refl
-by n false true = refl
-by n false false = refl
+one-test : (n : ℕ) (long short : Bool) → cond (long || short) 0 n ≡ orNone (cond long (refused 7) (cond short (refused 8) (answered n)))
+one-test n true short = refl
+one-test n false true = refl
+one-test n false false = refl
 
 returns : tie.Need-returns
 unfolding turnsOf
-returns c =
-    let args = c .before .args in
-    rw (← by (args .n) (ltb 256 (args .n)) (ltb (args .room) (args .n)), c .if1 .taken)
+returns c = simp (← one-test, c .if1 .taken)
 
 returns-2 : tie.Need-returns-2
 unfolding turnsOf
-returns-2 c =
-    let args = c .before .args in
-    rw (← by (args .n) (ltb 256 (args .n)) (ltb (args .room) (args .n)), c .if1 .left)
+returns-2 c = simp (← one-test, c .if1 .left)
 
 pub turns-spec : {M : Type 1} → statement M
 turns-spec = tie.close (tie.spec returns returns-2)
