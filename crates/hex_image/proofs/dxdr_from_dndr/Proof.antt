@@ -11,4 +11,6 @@ returns c =
     simp (c .rows .ensures, third .jacobian-row3 .ensures, second .jacobian-row2 .ensures, first .jacobian-row .ensures)
 
 pub dxdr-from-dndr-spec : {M : Type 1} → statement M
-dxdr-from-dndr-spec = tie.close (tie.spec (λ c κs. search needs) (λ c κs. search needs) (λ c κs. search needs) (λ c κs. search needs) returns)
+dxdr-from-dndr-spec =
+    tie.close
+    (tie.spec (λ c κs. search needs) (λ c κs. search needs) (λ c κs. search needs) (λ c κs. search needs) returns)

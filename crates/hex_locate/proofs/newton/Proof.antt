@@ -20,11 +20,14 @@ loop-holds c = at-the-start refl
 
 returns : tie.Need-returns Inv-loop μ-loop
 unfolding located
-returns c = refused-early (c .before .before .before .before .before .loop .inv) inside (omega arith) (c .before .before .step-from .ensures) (c .enum-told .given .1)
+returns c =
+    let turn = c .before .before .before .before .before in
+    refused-early (turn .loop .inv) inside (omega arith) (c .before .before .step-from .ensures) (c .enum-told .given .1)
 
 loop-again : tie.Need-loop-again Inv-loop μ-loop
 loop-again c =
-    one-step-on (c .before .before .before .before .before .before .loop .inv) (omega arith) (c .before .before .before .step-from .ensures) (c .before .to .given .1)
+    let turn = c .before .before .before .before .before .before in
+    one-step-on (turn .loop .inv) (omega arith) (c .before .before .before .step-from .ensures) (c .before .to .given .1)
 
 returns-2 : tie.Need-returns-2 Inv-loop μ-loop
 unfolding located

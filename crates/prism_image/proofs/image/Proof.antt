@@ -9,7 +9,10 @@ unfolding imageAt
 returns c =
     let second = c .before .before .before in
     let first = second .before .before .before in
-    simp (c .image-entry3 .ensures, second .image-entry2 .ensures, first .image-entry .ensures, first .before .before .before .before .before .shapefunc .ensures)
+    let shape = first .before .before .before .before .before in
+    simp (c .image-entry3 .ensures, second .image-entry2 .ensures, first .image-entry .ensures, shape .shapefunc .ensures)
 
 pub image-spec : {M : Type 1} → statement M
-image-spec = tie.close (tie.spec (λ c κs. search needs) (λ c κs. search needs) (λ c κs. search needs) (λ c κs. search needs) returns)
+image-spec =
+    tie.close
+    (tie.spec (λ c κs. search needs) (λ c κs. search needs) (λ c κs. search needs) (λ c κs. search needs) returns)

@@ -10,7 +10,10 @@ returns c =
     let third = c .before in
     let second = third .before .before .before in
     let first = second .before .before .before in
-    simp (c .rows .ensures, third .jacobian-row3 .ensures, second .jacobian-row2 .ensures, first .jacobian-row .ensures, first .before .before .before .before .before .dndr .ensures)
+    let slopes = first .before .before .before .before .before in
+    simp (c .rows .ensures, third .jacobian-row3 .ensures, second .jacobian-row2 .ensures, first .jacobian-row .ensures, slopes .dndr .ensures)
 
 pub newton-jacobian-spec : {M : Type 1} → statement M
-newton-jacobian-spec = tie.close (tie.spec (λ c κs. search needs) (λ c κs. search needs) (λ c κs. search needs) (λ c κs. search needs) (λ c κs. search needs) returns)
+newton-jacobian-spec =
+    tie.close
+    (tie.spec (λ c κs. search needs) (λ c κs. search needs) (λ c κs. search needs) (λ c κs. search needs) (λ c κs. search needs) returns)
