@@ -1,8 +1,10 @@
 -- What a cell of n corners makes of its corners: the image of a place and its slope. Definitions only.
 use Prim.Native.Nat.{ℕ, zero, suc, _+_, _*_}
+use mathlib.Core.Bool.{cond}
 use mathlib.Core.List.{List, [], _∷_}
+use lib.Dec.{ltb}
 use lib.Ieee.{Float}
-use lib.ListN.{getD}
+use lib.ListN.{getD, set}
 use Rattle.numbers.specs.Rule.{tabulate, grid, foldTo}
 use Rattle.binary64.specs.Binary64.{_⊕_, _⊗_, _!_, f0}
 
@@ -33,3 +35,7 @@ jacobian n p slopes = grid 3 3 (jacobianOn n p slopes)
 -- three rows of three floats, one behind another
 abbrev pub rowByRow : List Float → List Float → List Float → List Float
 rowByRow x y z = grid 3 3 (λ (i j : ℕ). getD (x ∷ y ∷ z ∷ []) i [] ! j)
+
+-- three rows of three floats with row i stored, where there is one
+abbrev pub withRow : List Float → ℕ → List Float → List Float
+withRow m i x = cond (ltb i 3) (set (set (set m (3 * i) (x ! 0)) (3 * i + 1) (x ! 1)) (3 * i + 2) (x ! 2)) m

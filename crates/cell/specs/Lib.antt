@@ -3,3 +3,4 @@ pub mod Image
 pub mod Middles
 pub mod Newton
 pub mod Points
+pub mod Shape

@@ -21,10 +21,13 @@ coords q = q .x ∷ q .y ∷ q .z ∷ []
 abbrev pub lessBy : List Float → List Float → List Float
 lessBy q d = tabulate 3 (λ (i : ℕ). q ! i ⊖ d ! i)
 
--- one step from the place q: the inverse of the Jacobian, which is handed over column by column, times the image is taken off
+-- one step from the place q: the inverse of the Jacobian times the image is taken off
+abbrev pub stepBy : List Float → List Float → Answer (List Float) → Answer (List Float)
+stepBy q image inverted = andThen inverted (λ (m : List Float). answered (lessBy q (product m image)))
+
+-- the Jacobian is handed over to the inverse column by column
 unfoldable pub stepFrom : List Float → List Float → List Float → Answer (List Float)
-stepFrom q image jacobian =
-    andThen (inverse (transposed jacobian)) (λ (m : List Float). answered (lessBy q (product m image)))
+stepFrom q image jacobian = stepBy q image (inverse (transposed jacobian))
 
 -- the place q, or 2 where the inside test fails
 abbrev pub verdict : (List Float → Bool) → List Float → Answer (List Float)

@@ -10,9 +10,11 @@ fn step_from(p: [f64; 24], at: Point) -> Step
     ensures { λ r. ⌜ stepTold r ≡ step p (coords at) ⌝ }
 {
     let pco = [at.x, at.y, at.z];
-    let pos = hex_image::newton_image(p, pco);
+    let pos = hex_image::image(p, pco);
     let jac = hex_image::newton_jacobian(p, pco);
-    cell::newton_step(at, pos, jac)
+    let jac_col = mat3_col_major::transpose(jac);
+    let inverse = mat3_inverse::try_inverse(jac_col);
+    cell::newton_step(at, pos, inverse)
 }
 
 // Whether x lies in [-1, 1]. A NaN does not.

@@ -1,17 +1,15 @@
 -- The shape values of the cube and their slopes. A place is three numbers. Definitions and claims only.
-use Prim.Native.Nat.{ℕ, _<_}
-use mathlib.Core.Path.{_≡_}
+use Prim.Native.Nat.{ℕ}
 use mathlib.Core.Bool.{Bool, cond}
 use mathlib.Core.List.{List, [], _∷_}
-use lib.Dec.{eqb}
 use lib.Ieee.{Float}
 use lib.IntN.{pos}
-use lib.ListN.{getD}
-use Rattle.numbers.specs.Rule.{tabulate, grid, without}
+use Rattle.numbers.specs.Rule.{without}
 use Rattle.numbers.specs.Arithmetic.{Arithmetic}
 use Rattle.integers.specs.Integers.{integers}
 use Rattle.integers.specs.Slopes.{SlopesOf}
-use Rattle.binary64.specs.Binary64.{_⊗_, _⊘_, f0, f1, f2, floats}
+use Rattle.binary64.specs.Binary64.{_⊗_, _⊘_, f1, f2, floats}
+use Rattle.cell.specs.Shape.{valuesBy, slopesBy, OneAtItsCorner}
 use Rattle.hex.specs.Cube.{upper, hexSign}
 
 -- one eighth, worked out as the source does
@@ -52,20 +50,14 @@ side up r = sideIn floats up r
 abbrev pub shapeAt : List Float → ℕ → Float
 shapeAt q k = shapeIn floats one8 q k
 
-abbrev pub slopeAt : List Float → ℕ → ℕ → Float
-slopeAt q k j = slopeIn floats one8 q k j
-
 abbrev pub shape : List Float → List Float
-shape q = tabulate 8 (shapeAt q)
+shape q = valuesBy 8 shapeAt q
 
--- corner by corner, three slopes each
 abbrev pub slopes : List Float → List Float
-slopes q = grid 8 3 (slopeAt q)
+slopes q = slopesBy 8 (slopeIn floats one8) q
 
--- "There, shape value k is exactly 1 and the other seven are plus zero."
 abbrev pub CornersOfTheShape : Type 0
-CornersOfTheShape =
-    (k : ℕ) → k < 8 → shape (getD hexSign k []) ≡ tabulate 8 (λ (j : ℕ). cond (eqb j k) f1 f0)
+CornersOfTheShape = OneAtItsCorner 8 shape hexSign
 
 -- In whole numbers, where the eighth is counted as one, the slopes are those of the shape values.
 abbrev pub SlopesOfTheShape : Type 0

@@ -1,19 +1,18 @@
--- The shape values of the prism and their slopes. A place is three numbers. Definitions and claims only.
-use Prim.Native.Nat.{ℕ, suc, _<_}
-use mathlib.Core.Path.{_≡_}
+-- The shape values of the prism and their slopes. A place is three numbers: r and s in the triangle, t along the segment. Definitions and claims only.
+use Prim.Native.Nat.{ℕ, suc}
 use mathlib.Core.Bool.{cond}
-use mathlib.Core.List.{List, [], _∷_, map}
+use mathlib.Core.List.{List, [], _∷_}
 use lib.Dec.{eqb}
 use lib.Ieee.{Float}
-use lib.ListN.{getD}
-use Rattle.numbers.specs.Rule.{tabulate, grid}
+use Rattle.numbers.specs.Rule.{tabulate}
 use Rattle.numbers.specs.Arithmetic.{Arithmetic}
 use Rattle.integers.specs.Integers.{integers}
 use Rattle.integers.specs.Slopes.{SlopesOf}
 use Rattle.binary64.specs.Binary64.{f0, f1, floats}
+use Rattle.cell.specs.Shape.{valuesBy, slopesBy, OneAtItsCorner}
 use Rattle.prism.specs.Wedge.{column, level}
 
--- corner 0 of a simplex, here a triangle or a segment, is its origin, and corner c is one along axis c - 1
+-- corner 0 of a triangle or of a segment is its origin, and corner c is one along axis c - 1
 abbrev pub unit : ℕ → ℕ → Float
 unit c i = cond (eqb c (suc i)) f1 f0
 
@@ -29,61 +28,48 @@ module _ {A : Type 0} (a : Arithmetic A) where
   infixl 75 _⊖_
   infixl 80 _⊗_
   infixl 90 _!_
-  -- the coordinates in the triangle, and the one in the segment
-  abbrev pub across : List A → List A
-  across q = q ! 0 ∷ q ! 1 ∷ []
+  -- the weights of the three corners of the triangle, and of the two levels
+  abbrev pub columns : List A → List A
+  columns q = one ⊖ q ! 0 ⊖ q ! 1 ∷ q ! 0 ∷ q ! 1 ∷ []
 
-  abbrev pub upward : List A → List A
-  upward q = q ! 2 ∷ []
+  abbrev pub levels : List A → List A
+  levels q = one ⊖ q ! 2 ∷ q ! 2 ∷ []
 
-  -- x less, or plus, each of these in order
-  abbrev pub less : A → List A → A
-  less x [] = x
-  less x (y ∷ ys) = less (x ⊖ y) ys
+  -- Minus each weight, as the source writes it. Minus one plus the coordinates is no turned sign: where the weight is plus zero it is plus zero too, and
+  -- not minus zero.
+  abbrev pub minusColumns : List A → List A
+  minusColumns q = neg one ⊕ q ! 0 ⊕ q ! 1 ∷ neg (q ! 0) ∷ neg (q ! 1) ∷ []
 
-  abbrev pub plus : A → List A → A
-  plus x [] = x
-  plus x (y ∷ ys) = plus (x ⊕ y) ys
+  abbrev pub minusLevels : List A → List A
+  minusLevels q = neg one ⊕ q ! 2 ∷ neg (q ! 2) ∷ []
 
-  -- the weights of the corners of a simplex: one less its coordinates, then each coordinate
-  abbrev pub weights : List A → List A
-  weights xs = less one xs ∷ xs
-
-  -- minus each weight, as the source writes it: minus one plus the coordinates gives plus zero where a turned sign would give minus zero
-  abbrev pub negatives : List A → List A
-  negatives xs = plus (neg one) xs ∷ map neg xs
-
-  -- the shape value of corner k: the weight of its triangle corner times that of its level
+  -- the shape value of corner k: the weight of its corner of the triangle times that of its level
   abbrev pub shapeIn : List A → ℕ → A
-  shapeIn q k = weights (across q) ! column k ⊗ weights (upward q) ! level k
+  shapeIn q k = columns q ! column k ⊗ levels q ! level k
 
-  -- Along axis i of a simplex the weight of corner 0 has the slope minus one, that of corner i + 1 has one, and the others have zero:
-  -- the slope of corner c, times the weight of corner d of the other simplex, whose coordinates are ys.
-  abbrev pub slopeOn : ℕ → ℕ → List A → ℕ → A
-  slopeOn c i ys d = cond (eqb c 0) (negatives ys ! d) (cond (eqb c (suc i)) (weights ys ! d) zero)
+  -- Its slope along axis j of the triangle. A step of one there takes one off the weight of the triangle's corner 0, adds one to that of corner j + 1, and
+  -- leaves the third: the shape value loses the weight of its level, gains it, or stays.
+  abbrev pub slopeAcross : List A → ℕ → ℕ → A
+  slopeAcross q k j =
+      cond (eqb (column k) 0) (minusLevels q ! level k) (cond (eqb (column k) (suc j)) (levels q ! level k) zero)
 
-  -- the slope of the shape value of corner k along axis j: axis 2 is the segment's, 0 and 1 are the triangle's
+  -- Its slope along t. A step of one takes one off the weight of the lower level and adds one to that of the upper: the shape value loses or gains the
+  -- weight of its corner of the triangle.
+  abbrev pub slopeUpward : List A → ℕ → A
+  slopeUpward q k = cond (eqb (level k) 0) (minusColumns q ! column k) (columns q ! column k)
+
+  -- its slope along axis j: axis 2 is t, 0 and 1 are the triangle's
   abbrev pub slopeIn : List A → ℕ → ℕ → A
-  slopeIn q k j =
-      cond (eqb j 2) (slopeOn (level k) 0 (across q) (column k)) (slopeOn (column k) j (upward q) (level k))
-
-abbrev pub shapeAt : List Float → ℕ → Float
-shapeAt q k = shapeIn floats q k
-
-abbrev pub slopeAt : List Float → ℕ → ℕ → Float
-slopeAt q k j = slopeIn floats q k j
+  slopeIn q k j = cond (eqb j 2) (slopeUpward q k) (slopeAcross q k j)
 
 abbrev pub shape : List Float → List Float
-shape q = tabulate 6 (shapeAt q)
+shape q = valuesBy 6 (shapeIn floats) q
 
--- corner by corner, three slopes each
 abbrev pub slopes : List Float → List Float
-slopes q = grid 6 3 (slopeAt q)
+slopes q = slopesBy 6 (slopeIn floats) q
 
--- "There, shape value k is exactly 1 and the other seven are plus zero. The six prism corners .. behave alike."
 abbrev pub CornersOfTheShape : Type 0
-CornersOfTheShape =
-    (k : ℕ) → k < 6 → shape (getD places k []) ≡ tabulate 6 (λ (j : ℕ). cond (eqb j k) f1 f0)
+CornersOfTheShape = OneAtItsCorner 6 shape places
 
 -- In whole numbers the slopes are those of the shape values.
 abbrev pub SlopesOfTheShape : Type 0

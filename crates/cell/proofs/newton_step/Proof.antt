@@ -1,30 +1,14 @@
--- `cell::newton_step` meets its contract: the step is its four calls composed. Assumes nothing.
+-- `cell::newton_step` meets its contract: the step by the inverse, where there is one. Assumes nothing.
 use borrow.Author.Needs.{needs}
-use Rattle.cell.specs.Newton.{stepFrom}
 use Rattle.cell.proofs.newton_step.Statement.{statement}
 use Rattle.cell.proofs.newton_step.Tie as tie
-use Rattle.cell.proofs.newton_step.Reads as reads
-use Rattle.cell.proofs.newton_step.Lts as lts
 
 returns : tie.Need-returns
-unfolding stepFrom
-returns c =
-    let tried = c .before .before .before .before .before in
-    simp (
-      ← tried .before .transpose .ensures,
-      ← tried .try-inverse .ensures,
-      c .before .before .before .a .given .1,
-      c .moved .ensures,
-      c .before .mult-vec .ensures,
-    )
+returns c = simp (c .before .before .before .inverse .given .1, c .moved .ensures, c .before .mult-vec .ensures)
 
 returns-2 : tie.Need-returns-2
-unfolding stepFrom
-returns-2 c =
-    let tried = c .before .before in
-    simp (← tried .before .transpose .ensures, ← tried .try-inverse .ensures, c .enum-told .given .1)
+returns-2 c = simp (c .enum-told .given .1)
 
 pub newton-step-spec : {M : Type 1} → statement M
 newton-step-spec =
-    tie.close
-    (tie.spec (λ c κs. search needs) (λ c κs. search needs) (λ c. search needs) (λ c κs. search needs) (λ c κs. search needs) (λ c. search needs) returns returns-2)
+    tie.close (tie.spec (λ c. search needs) (λ c κs. search needs) (λ c κs. search needs) (λ c. search needs) returns returns-2)

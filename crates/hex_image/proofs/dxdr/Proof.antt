@@ -1,5 +1,6 @@
--- `hex_image::dxdr` meets its contract: the slopes, and a row for each axis. Assumes nothing.
+-- `hex_image::dxdr` meets its contract: the slopes, and a row stored for each axis. Assumes nothing.
 use borrow.Author.Needs.{needs}
+use Rattle.cell.proofs.Image.{jacobian-stored}
 use Rattle.hex_image.specs.Image.{jacobianAt}
 use Rattle.hex_image.proofs.dxdr.Statement.{statement}
 use Rattle.hex_image.proofs.dxdr.Tie as tie
@@ -7,18 +8,14 @@ use Rattle.hex_image.proofs.dxdr.Tie as tie
 returns : tie.Need-returns
 unfolding jacobianAt
 returns c =
-    let third = c .before in
-    let second = third .before .before in
-    let first = second .before .before in
-    simp (c .rows .ensures, third .dxdr-row3 .ensures, second .dxdr-row2 .ensures, first .dxdr-row .ensures, first .before .before .dndr .ensures)
+    let next = c .before .before .before .before .before .before in
+    let first = next .before .before .before .before .before in
+    let dndr = first .before .before .before .before .before .before in
+    jacobian-stored 8 (dndr .before .args .t1) (dndr .dndr .ensures) (first .jacobian-row .ensures) (next .before .before .before .before .put-row .ensures)
+    (next .jacobian-row2 .ensures) (c .before .before .before .before .before .put-row2 .ensures) (c .before .jacobian-row3 .ensures) (c .put-row3 .ensures)
 
 pub dxdr-spec : {M : Type 1} → statement M
 dxdr-spec =
     tie.close
-    (tie.spec
-    (λ c κs. search needs)
-    (λ c κs. search needs)
-    (λ c κs. search needs)
-    (λ c κs. search needs)
-    (λ c κs. search needs)
-    returns)
+    (tie.spec (λ c κs. search needs) (λ c κs. search needs) (λ c κs. search needs) (λ c κs. search needs) (λ c κs. search needs)
+    (λ c κs. search needs) (λ c κs. search needs) returns)

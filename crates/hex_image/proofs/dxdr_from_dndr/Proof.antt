@@ -6,8 +6,11 @@ use Rattle.hex_image.proofs.dxdr_from_dndr.Tie as tie
 returns : tie.Need-returns
 returns c =
     let third = c .before in
-    simp (c .rows .ensures, third .dxdr-row3 .ensures, third .before .before .dxdr-row2 .ensures, third .before .before .before .before .dxdr-row .ensures)
+    let second = third .before .before .before in
+    let first = second .before .before .before in
+    simp (c .rows .ensures, third .jacobian-row3 .ensures, second .jacobian-row2 .ensures, first .jacobian-row .ensures)
 
 pub dxdr-from-dndr-spec : {M : Type 1} → statement M
 dxdr-from-dndr-spec =
-    tie.close (tie.spec (λ c κs. search needs) (λ c κs. search needs) (λ c κs. search needs) (λ c κs. search needs) returns)
+    tie.close
+    (tie.spec (λ c κs. search needs) (λ c κs. search needs) (λ c κs. search needs) (λ c κs. search needs) returns)
