@@ -6,6 +6,7 @@
 # make compare     CASES=20000 SEED=1: the carried functions against the original Rust
 # make second      CASES=20000 SEED=1: the additions against the second program
 # make words       whether the refusals' words, the sizes and the version are the same wherever they stand
+# make edits       whether docs/CONTRACTS.md and docs/COVERAGE.md name the must-fail edits that there are
 # make installed   whether programs build and run with what make install writes
 # make test        the gate: proves everything from nothing, and then makes demo to installed
 # make bench       BENCH=--instructions: times beside the original's, or instructions
@@ -26,7 +27,7 @@ ifneq ($(shell uname -m),x86_64)
 VIA = tools/x86-64
 endif
 
-.PHONY: help demo test compare second words install installed clean
+.PHONY: help demo test compare second words edits install installed clean
 
 help:
 	@sed -n '/^#/!q; s/^# //p' Makefile
@@ -71,6 +72,9 @@ words: $(ARCHIVE)
 	mkdir -p target/words
 	$(VIA) cc -std=c99 $(STRICT) -Iinclude tools/words.c $(ARCHIVE) -o target/words/words
 	$(VIA) target/words/words | tools/words
+
+edits:
+	tools/edits
 
 clean:
 	rm -rf target bench/target bindings/rust/target oracle/target

@@ -10,12 +10,26 @@ static void around(const double *mesh, size_t corners, const double probe[3], do
             out[3 * k + i] = mesh[3 * k + i] - probe[i];
 }
 
+/* A refusal by its number and its words; 1 and 2 of a locator have a name too. */
+static void say_refused(uint32_t answer) {
+    const char *name = answer == ISN_REFUSED_FLAT ? "flat, " : answer == ISN_REFUSED_OUTSIDE ? "outside, " : "";
+    printf("%srefused %u: %s\n", name, (unsigned)answer, isn_refusal_text(answer));
+}
+
 static void say(const char *cell, const double probe[3], uint32_t answer, const double at[3]) {
     printf("%s, probe at (%g, %g, %g): ", cell, probe[0], probe[1], probe[2]);
     if (answer == ISN_OK)
         printf("inside at (%.17g, %.17g, %.17g)\n", at[0], at[1], at[2]);
     else
-        printf("refused %u: %s\n", (unsigned)answer, isn_refusal_text(answer));
+        say_refused(answer);
+}
+
+static void say_checked(const char *place, uint32_t answer) {
+    printf("block, %s: ", place);
+    if (answer == ISN_OK)
+        printf("accepted\n");
+    else
+        say_refused(answer);
 }
 
 static void locate(void) {
@@ -32,12 +46,11 @@ static void locate(void) {
     double found[3];
     around(block, 8, probes[0], corners);
     uint32_t answer = isn_hex_locate_checked(corners, 1e-9, found);
-    printf("block, probe checked to 1e-9: %s\n", answer == ISN_OK ? "accepted" : isn_refusal_text(answer));
+    say_checked("probe checked to 1e-9", answer);
     if (answer != ISN_OK)
         return;
     found[0] += 1e-6;
-    answer = isn_hex_check(corners, found, 1e-9);
-    printf("block, a place 1e-6 beside it: refused %u: %s\n", (unsigned)answer, isn_refusal_text(answer));
+    say_checked("a place 1e-6 beside it", isn_hex_check(corners, found, 1e-9));
 }
 
 /* The table that `hexkids` prints for a mesh file with these cells. */
@@ -46,7 +59,7 @@ static void refine(void) {
     uint32_t children[2 * ISN_REFINED_NUMBERS], next;
     uint32_t answer = isn_refine(12, cells, 16, children, 2 * ISN_REFINED_NUMBERS, &next);
     if (answer != ISN_OK) {
-        printf("refused %u: %s\n", (unsigned)answer, isn_refusal_text(answer));
+        say_refused(answer);
         return;
     }
     printf("cells 16 nodes %u\n", (unsigned)next);

@@ -17,13 +17,18 @@ std::array<double, 24> cube() {
     return corners;
 }
 
+void say_refused(std::uint32_t answer) {
+    std::printf("refused %u: %s\n", answer, isn_refusal_text(answer));
+}
+
 void judge() {
     const auto corners = cube();
     const std::array<isn_proposal, 4> list = {{{{0.5, 0, 0}, 1}, {{0.5, 0, 0}, 0.5}, {{2, 0, 0}, 1}, {{0, 0, 0}, -1}}};
     std::array<std::uint32_t, list.size()> answers;
     std::uint32_t accepted = 0;
-    if (isn_hex_check_proposals(corners.data(), list.data(), list.size(), answers.data(), answers.size(), &accepted) != 0)
-        return;
+    const auto refusal = isn_hex_check_proposals(corners.data(), list.data(), list.size(), answers.data(), answers.size(), &accepted);
+    if (refusal != ISN_OK)
+        return say_refused(refusal);
     std::printf("%u of %zu proposals accepted:", accepted, list.size());
     for (std::uint32_t answer : answers)
         std::printf(" %u", answer);
@@ -33,7 +38,10 @@ void judge() {
 void descend() {
     const std::array<std::uint32_t, 3> path = {{6, 0, 3}};
     std::int32_t at[3];
-    if (isn_descendant(path.data(), path.size(), 7, at) == 0)
+    const auto refusal = isn_descendant(path.data(), path.size(), 7, at);
+    if (refusal != ISN_OK)
+        say_refused(refusal);
+    else
         std::printf("corner 7 of child 3 of child 0 of child 6: (%d, %d, %d) / 8\n", at[0], at[1], at[2]);
 }
 

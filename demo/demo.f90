@@ -48,6 +48,10 @@ contains
   subroutine refine()
     integer(c_int32_t) :: children(8, 8), next, answer
     answer = isn_refine(8_c_int32_t, [integer(c_int32_t) :: 0, 1, 2, 3, 4, 5, 6, 7], 8_c_size_t, children, 64_c_size_t, next)
-    if (answer == 0) print '(a, i0, a, 8(1x, i0))', 'nodes ', next, ', the last child names', children(:, 8)
+    if (answer == 0) then
+      print '(a, i0, a, 8(1x, i0))', 'nodes ', next, ', the last child names', children(:, 8)
+    else
+      print '(a, i0)', 'refused ', answer
+    end if
   end subroutine
 end program

@@ -20,7 +20,7 @@ int main(void) {
     uint32_t out[ISN_REFINED_NUMBERS], n;
     int32_t place[3];
     double volume;
-    for (n = 0; n < 40; n++)
+    for (n = 0; n < 256; n++)
         word(n);
     word(UINT32_MAX);
     size("ISN_MAX_NODES", ISN_MAX_NODES, isn_refine(ISN_MAX_NODES, NULL, 0, NULL, 0, &n), isn_refine(ISN_MAX_NODES + 1, NULL, 0, NULL, 0, &n));

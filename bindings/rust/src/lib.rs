@@ -18,7 +18,8 @@ pub type Point = [f64; 3];
 fn answer<T>(mut out: T, call: impl FnOnce(&mut T) -> u32) -> Result<T, Refusal> {
     match call(&mut out) {
         0 => Ok(out),
-        number => Err(Refusal::from_number(number).expect("every refusal has its number here")),
+        number => Err(Refusal::from_number(number)
+            .unwrap_or_else(|| panic!("no refusal of this version has the number {number}"))),
     }
 }
 

@@ -1,6 +1,8 @@
 //! Every refusal of every function, in the order in which they are looked for, and that nothing is
 //! written then.
 
+use std::collections::BTreeMap;
+
 use isnemgul::hex::{self, Proposal, SIGNS};
 use isnemgul::{Point, Refusal, mat3, mesh, prism};
 
@@ -8,11 +10,26 @@ use Refusal::*;
 
 const CELL: [u32; 8] = [0, 1, 2, 3, 4, 5, 6, 7];
 
+/// The words of each number in docs/REFUSALS.md. `make words` holds that page to the header.
+fn page() -> BTreeMap<u32, &'static str> {
+    let row = |line: &'static str| {
+        let mut cells = line.strip_prefix("| ")?.split(" | ");
+        Some((cells.next()?.parse().ok()?, cells.next()?))
+    };
+    include_str!("../../../docs/REFUSALS.md").lines().filter_map(row).collect()
+}
+
+/// A number of the page has its words, and any other has none: the numbers may have gaps.
 #[test]
 fn numbers_and_words() {
-    let all: Vec<Refusal> = (1..).map_while(Refusal::from_number).collect();
-    assert!(all.len() >= 13 && all.iter().zip(1..).all(|(refusal, n)| refusal.number() == n));
-    assert_eq!([0, u32::MAX].map(Refusal::from_number), [None; 2]);
+    let mut words = page();
+    assert_eq!(words.remove(&0), Some("answered"));
+    assert!(words.len() >= 13);
+    for number in (0..1000).chain(words.keys().copied()).chain([u32::MAX]) {
+        let refusal = Refusal::from_number(number);
+        assert_eq!(refusal.map(Refusal::words), words.get(&number).copied(), "{number}");
+        assert!(refusal.is_none_or(|refusal| refusal.number() == number), "{number}");
+    }
     assert_eq!(Twice.to_string(), "refused 10: a node stands twice in one cell");
     let _: &dyn std::error::Error = &Flat;
 }

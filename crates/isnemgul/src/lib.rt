@@ -101,7 +101,8 @@ pub extern "C" fn isn_hex_grad_shapefunc_from_dndr(
     dndx: &mut [f64; 24],
     detjac: &mut f64,
 ) -> u32
-    ensures { λ r. ⌜ (r ≡ 0) × (now (dndx .exit) ≡ gradient (now (corners .entry)) (now (dndr .entry)) .dndx) × (now (detjac .exit) ≡ gradient (now (corners .entry)) (now (dndr .entry)) .detjac) ⌝ }
+    ensures { λ r. ⌜ (r ≡ 0) × (now (dndx .exit) ≡ gradient (now (corners .entry)) (now (dndr .entry)) .dndx)
+        × (now (detjac .exit) ≡ gradient (now (corners .entry)) (now (dndr .entry)) .detjac) ⌝ }
 {
     *detjac = hex_gradient::slopes_into(corners, dndr, dndx);
     0
@@ -115,7 +116,9 @@ pub extern "C" fn isn_hex_dndx(
     dndx: &mut [f64; 24],
     detjac: &mut f64,
 ) -> u32
-    ensures { λ r. ⌜ (r ≡ 0) × (now (shape .exit) ≡ shapeGradient (now (corners .entry)) (now (pco .entry)) .shape) × (now (dndx .exit) ≡ shapeGradient (now (corners .entry)) (now (pco .entry)) .dndx) × (now (detjac .exit) ≡ shapeGradient (now (corners .entry)) (now (pco .entry)) .detjac) ⌝ }
+    ensures { λ r. ⌜ (r ≡ 0) × (now (shape .exit) ≡ shapeGradient (now (corners .entry)) (now (pco .entry)) .shape)
+        × (now (dndx .exit) ≡ shapeGradient (now (corners .entry)) (now (pco .entry)) .dndx)
+        × (now (detjac .exit) ≡ shapeGradient (now (corners .entry)) (now (pco .entry)) .detjac) ⌝ }
 {
     let found = hex_gradient::dndx(*corners, pco[0], pco[1], pco[2]);
     let values = found.shape;
@@ -136,7 +139,8 @@ pub extern "C" fn isn_hex_grad_shapefunc(
     dndx: &mut [f64; 24],
     detwei: &mut f64,
 ) -> u32
-    ensures { λ r. ⌜ Leaves (weightedGradient (now (corners .entry)) (now (points .entry)) i1 i2 i3) r (now (dndx .entry), now (detwei .entry)) (now (dndx .exit), now (detwei .exit)) ⌝ }
+    ensures { λ r. ⌜ Leaves (weightedGradient (now (corners .entry)) (now (points .entry)) i1 i2 i3) r
+        (now (dndx .entry), now (detwei .entry)) (now (dndx .exit), now (detwei .exit)) ⌝ }
 {
     hex_weighted_gradient::weighted_gradient(
         corners,
@@ -189,7 +193,8 @@ pub extern "C" fn isn_hex_iso_edges(
     index: &mut u32,
     positions: &mut [f64; 36],
 ) -> u32
-    ensures { λ r. ⌜ (r ≡ 0) × (now (index .exit) ≡ isoEdges (now (center .entry)) «half_width» (now (values .entry)) .index) × (now (positions .exit) ≡ isoEdges (now (center .entry)) «half_width» (now (values .entry)) .positions) ⌝ }
+    ensures { λ r. ⌜ (r ≡ 0) × (now (index .exit) ≡ isoEdges (now (center .entry)) «half_width» (now (values .entry)) .index)
+        × (now (positions .exit) ≡ isoEdges (now (center .entry)) «half_width» (now (values .entry)) .positions) ⌝ }
 {
     *index = hex_iso::iso_edges_into(*center, half_width, *values, positions);
     0
@@ -251,7 +256,8 @@ pub extern "C" fn isn_hex_check_proposals(
     out: &mut [u32],
     accepted: &mut u32,
 ) -> u32
-    ensures answer { λ r. ⌜ Leaves (zerosIn (judgements (now (corners .entry)) (now (list .entry)) (length (now (out .entry))))) r (now (accepted .entry)) (now (accepted .exit)) ⌝ }
+    ensures answer { λ r. ⌜ Leaves (zerosIn (judgements (now (corners .entry)) (now (list .entry)) (length (now (out .entry))))) r
+        (now (accepted .entry)) (now (accepted .exit)) ⌝ }
     ensures output { λ _. ⌜ now (out .exit) ≡ left (judgements (now (corners .entry)) (now (list .entry)) (length (now (out .entry)))) (now (out .entry)) ⌝ }
     ensures sound { λ r. ⌜ (r ≡ 0 → Each ZeroIsNear (now (corners .entry)) (now (list .entry)) (now (out .exit))) ⌝ }
     ensures complete { λ r. ⌜ (r ≡ 0 → Each NearIsZero (now (corners .entry)) (now (list .entry)) (now (out .exit))) ⌝ }
@@ -321,7 +327,8 @@ pub extern "C" fn isn_prism_subdivide(
 #[no_mangle]
 pub extern "C" fn isn_refine(n: u32, cells: &[u32], out: &mut [u32], next: &mut u32) -> u32
     ensures answer { λ r. ⌜ Leaves (refined n (now (cells .entry)) (length (now (out .entry)))) r (now (next .entry)) (now (next .exit)) ⌝ }
-    ensures output { λ _. ⌜ now (out .exit) ≡ left (childrenIn (refined n (now (cells .entry)) (length (now (out .entry)))) n (now (cells .entry))) (now (out .entry)) ⌝ }
+    ensures output { λ _. ⌜ now (out .exit) ≡ left (childrenIn (refined n (now (cells .entry)) (length (now (out .entry)))) n (now (cells .entry)))
+        (now (out .entry)) ⌝ }
 {
     mesh_answers::put_refined(refine::refine(n, cells, out), next)
 }
@@ -340,9 +347,12 @@ pub extern "C" fn isn_hxm_read(
     cells: &mut [u32],
     counts: &mut [u32; 2],
 ) -> u32
-    ensures answer { λ r. ⌜ Leaves (countsOf (meshInto (length (now (nodes .entry))) (length (now (cells .entry))) (now (bytes .entry)))) r (now (counts .entry)) (now (counts .exit)) ⌝ }
-    ensures coords { λ _. ⌜ now (nodes .exit) ≡ left (coordsOf (meshInto (length (now (nodes .entry))) (length (now (cells .entry))) (now (bytes .entry)))) (now (nodes .entry)) ⌝ }
-    ensures corners { λ _. ⌜ now (cells .exit) ≡ left (cornersOf (meshInto (length (now (nodes .entry))) (length (now (cells .entry))) (now (bytes .entry)))) (now (cells .entry)) ⌝ }
+    ensures answer { λ r. ⌜ Leaves (countsOf (meshInto (length (now (nodes .entry))) (length (now (cells .entry))) (now (bytes .entry)))) r
+        (now (counts .entry)) (now (counts .exit)) ⌝ }
+    ensures coords { λ _. ⌜ now (nodes .exit) ≡ left (coordsOf (meshInto (length (now (nodes .entry))) (length (now (cells .entry))) (now (bytes .entry))))
+        (now (nodes .entry)) ⌝ }
+    ensures corners { λ _. ⌜ now (cells .exit) ≡ left (cornersOf (meshInto (length (now (nodes .entry))) (length (now (cells .entry))) (now (bytes .entry))))
+        (now (cells .entry)) ⌝ }
 {
     mesh_answers::put_reading(hxm::read(bytes, nodes, cells), counts)
 }

@@ -1,4 +1,5 @@
-// What the answer of a descendant, a refinement or a mesh file leaves in lent memory, for C: its values and 0, or a refusal's number and nothing else (`Leaves`).
+// What the answer of a descendant, a refinement or a mesh file leaves in lent memory, for C: its values and 0,
+// or a refusal's number and nothing else (`Leaves`).
 use descendant::Descended;
 use hxm::Reading;
 use refine::Refined;

@@ -1,4 +1,5 @@
-// What the answer of a check, a checked locator or a list of proposals leaves in lent memory, for C: its values and 0, or a refusal's number and nothing else (`Leaves`).
+// What the answer of a check, a checked locator or a list of proposals leaves in lent memory, for C: its values and 0,
+// or a refusal's number and nothing else (`Leaves`).
 use probe::Checked;
 use probe::Verdict;
 use proposals::Judged;

@@ -1,5 +1,5 @@
 -- The numbers by which each entry refuses, in the order in which they are looked for. 0 is none of them, so that an entry's 0 tells an answer
--- (binary64: `ZeroTellsAnAnswer`). Definitions and the claim only.
+-- (answer: `ZeroTellsAnAnswer`). Definitions and the claim only.
 use Prim.Native.Nat.{ℕ}
 use mathlib.Core.List.{List, [], _∷_}
 use lib.Ieee.{Float}

@@ -4,7 +4,9 @@ use Rattle.isnemgul.proofs.isn_hxm_read.Statement.{statement}
 use Rattle.isnemgul.proofs.isn_hxm_read.Tie as tie
 
 returns : tie.Need-returns
-returns c = rw (← c .before .before .before .before .before .before .read .ensures .answer) (c .put-reading .ensures, (c .before .before .before .before .before .before .read .ensures .nodesLeft, c .before .before .before .before .before .before .read .ensures .cellsLeft))
+returns c =
+    let reads = c .before .before .before .before .before .before .read .ensures in
+    rw (← reads .answer) (c .put-reading .ensures, (reads .nodesLeft, reads .cellsLeft))
 
 pub isn-hxm-read-spec : {M : Type 1} → statement M
 isn-hxm-read-spec = tie.close (tie.spec (λ c κs. search needs) (λ c κs. search needs) (λ c. search needs) (λ c. search needs) returns)
