@@ -1,5 +1,5 @@
-// One function for each function that is replayed: whether it answers a record's inputs, which begin at word 0, as was stored. That answer is
-// `outcome`, 0 or a refusal's number, and the words from `out` on.
+// Whether each function that is compared answers a record's input words as was stored.
+use crate::Record;
 use cell::Located;
 use cell::Measured;
 use cell::Point;
@@ -9,114 +9,124 @@ use hex_weighted_gradient::WeightedGradient;
 use mat3_inverse::Inverse;
 use probe::Checked;
 use probe::Verdict;
-ghost use Prim.Native.Nat.{_≤_};
+ghost use Prim.Native.Nat.{_+_, _≤_, _<_};
+ghost use lib.ListN.{length};
 
-fn mat3_transpose(w: &[u64; 192]) -> bool {
+fn matrix(stored: &Record) -> [f64; 9] {
     let mut m = [0.0; 9];
-    crate::read(w, 0, &mut m);
-    let r = mat3_col_major::transpose(m);
-    crate::agree(&r, w, 9)
+    crate::floats(stored, 0, &mut m);
+    m
 }
 
-fn mat3_mult_vec(w: &[u64; 192]) -> bool {
-    let mut a = [0.0; 9];
-    let mut b = [0.0; 3];
-    crate::read(w, 0, &mut a);
-    crate::read(w, 9, &mut b);
-    let r = mat3_col_major::mult_vec(a, b);
-    crate::agree(&r, w, 12)
+fn place(stored: &Record, from: usize) -> [f64; 3]
+    requires { ⌜ from + 3 ≤ 510 ⌝ }
+{
+    let mut p = [0.0; 3];
+    crate::floats(stored, from, &mut p);
+    p
 }
 
-fn mat3_determinant(w: &[u64; 192]) -> bool {
-    let mut m = [0.0; 9];
-    crate::read(w, 0, &mut m);
-    let r = [mat3_col_major::determinant(m)];
-    crate::agree(&r, w, 9)
+fn hexahedron(stored: &Record) -> [f64; 24] {
+    let mut p = [0.0; 24];
+    crate::floats(stored, 0, &mut p);
+    p
 }
 
-fn mat3_try_inverse(w: &[u64; 192], outcome: u32) -> bool {
-    let mut m = [0.0; 9];
-    crate::read(w, 0, &mut m);
-    match mat3_inverse::try_inverse(m) {
+fn prism(stored: &Record) -> [f64; 18] {
+    let mut p = [0.0; 18];
+    crate::floats(stored, 0, &mut p);
+    p
+}
+
+// A list whose length stands in word i, with what stands behind it: no stored list has more than 72 numbers.
+fn list(stored: &Record, i: usize) -> [f64; 72]
+    requires { ⌜ i + 73 ≤ 510 ⌝ }
+{
+    let mut points = [0.0; 72];
+    crate::floats(stored, i + 1, &mut points);
+    points
+}
+
+fn length_of(stored: &Record, i: usize) -> usize
+    requires { ⌜ i < 510 ⌝ }
+    ensures { λ r. ⌜ r ≤ 72 ⌝ }
+{
+    crate::length_at(stored, i, 72)
+}
+
+fn mat3_transpose(stored: &Record) -> bool {
+    let r = mat3_col_major::transpose(matrix(stored));
+    crate::agree(&r, stored, 0)
+}
+
+fn mat3_mult_vec(stored: &Record) -> bool {
+    let r = mat3_col_major::mult_vec(matrix(stored), place(stored, 9));
+    crate::agree(&r, stored, 0)
+}
+
+fn mat3_determinant(stored: &Record) -> bool {
+    let r = [mat3_col_major::determinant(matrix(stored))];
+    crate::agree(&r, stored, 0)
+}
+
+fn mat3_try_inverse(stored: &Record) -> bool {
+    match mat3_inverse::try_inverse(matrix(stored)) {
         Inverse::Of(a, b, c, d, e, f, g, h, i) => {
             let r = [a, b, c, d, e, f, g, h, i];
-            crate::agree(&r, w, 9) & (outcome == 0)
+            crate::agree(&r, stored, 0)
         }
-        Inverse::ZeroDeterminant => outcome == 1,
+        Inverse::ZeroDeterminant => crate::refused(stored, 1),
     }
 }
 
-fn hex_shapefunc(w: &[u64; 192]) -> bool {
-    let mut pco = [0.0; 3];
-    crate::read(w, 0, &mut pco);
-    let r = hex_shape::shapefunc(pco);
-    crate::agree(&r, w, 3)
+fn hex_shapefunc(stored: &Record) -> bool {
+    let r = hex_shape::shapefunc(place(stored, 0));
+    crate::agree(&r, stored, 0)
 }
 
-fn hex_dndr(w: &[u64; 192]) -> bool {
-    let mut pco = [0.0; 3];
-    crate::read(w, 0, &mut pco);
-    let r = hex_shape::dndr(pco);
-    crate::agree(&r, w, 3)
+fn hex_dndr(stored: &Record) -> bool {
+    let r = hex_shape::dndr(place(stored, 0));
+    crate::agree(&r, stored, 0)
 }
 
-fn hex_dxdr(w: &[u64; 192]) -> bool {
-    let mut p = [0.0; 24];
-    let mut pco = [0.0; 3];
-    crate::read(w, 0, &mut p);
-    crate::read(w, 24, &mut pco);
-    let r = hex_image::dxdr(p, pco);
-    crate::agree(&r, w, 27)
+fn hex_dxdr(stored: &Record) -> bool {
+    let r = hex_image::dxdr(hexahedron(stored), place(stored, 24));
+    crate::agree(&r, stored, 0)
 }
 
-fn hex_grad_shapefunc_from_dndr(w: &[u64; 192]) -> bool {
-    let mut p = [0.0; 24];
+fn shape_values(shape: [f64; 8], stored: &Record) -> bool {
+    crate::agree(&shape, stored, 0)
+}
+
+// Whether the gradients at the corners, and one number more, are the output from its word `at` on.
+fn gradients(dndx: [f64; 24], last: f64, stored: &Record, at: usize) -> bool
+    requires { ⌜ at ≤ 8 ⌝ }
+{
+    let last = [last];
+    crate::agree(&dndx, stored, at) & crate::agree(&last, stored, at + 24)
+}
+
+fn hex_grad_shapefunc_from_dndr(stored: &Record) -> bool {
     let mut dndr = [0.0; 24];
-    crate::read(w, 0, &mut p);
-    crate::read(w, 24, &mut dndr);
-    let found = hex_gradient::grad_shapefunc_from_dndr(p, dndr);
+    crate::floats(stored, 24, &mut dndr);
+    let found = hex_gradient::grad_shapefunc_from_dndr(hexahedron(stored), dndr);
     let dndx = found.dndx;
-    let detjac = [found.detjac];
-    crate::agree24(dndx, w, 48) & crate::agree(&detjac, w, 72)
+    gradients(dndx, found.detjac, stored, 0)
 }
 
-fn hex_dndx(w: &[u64; 192]) -> bool {
-    let mut p = [0.0; 24];
-    crate::read(w, 0, &mut p);
+fn hex_dndx(stored: &Record) -> bool {
     let found = hex_gradient::dndx(
-        p,
-        crate::float_at(w, 24),
-        crate::float_at(w, 25),
-        crate::float_at(w, 26),
+        hexahedron(stored),
+        crate::float_at(stored, 24),
+        crate::float_at(stored, 25),
+        crate::float_at(stored, 26),
     );
     let shape = found.shape;
     let dndx = found.dndx;
-    let detjac = [found.detjac];
-    crate::agree8(shape, w, 27) & crate::agree24(dndx, w, 35) & crate::agree(&detjac, w, 59)
+    shape_values(shape, stored) & gradients(dndx, found.detjac, stored, 8)
 }
 
-fn hex_grad_at(
-    p: [f64; 24],
-    points: [f64; 72],
-    n: usize,
-    i1: u32,
-    i2: u32,
-    i3: u32,
-) -> WeightedGradient
-    requires { ⌜ n ≤ 72 ⌝ }
-{
-    hex_weighted_gradient::grad_shapefunc(
-        p,
-        crate::first(&points, n),
-        i1 as usize,
-        i2 as usize,
-        i3 as usize,
-    )
-}
-
-fn weighted(found: WeightedGradient, w: &[u64; 192], outcome: u32, out: usize) -> bool
-    requires { ⌜ out ≤ 96 ⌝ }
-{
+fn weighted(found: WeightedGradient, stored: &Record) -> bool {
     match found {
         WeightedGradient::Given(a, b, c, d, e, f, g, h, detwei) => {
             let dndx = [
@@ -145,246 +155,210 @@ fn weighted(found: WeightedGradient, w: &[u64; 192], outcome: u32, out: usize) -
                 h.y,
                 h.z,
             ];
-            let detwei = [detwei];
-            crate::agree24(dndx, w, out) & crate::agree(&detwei, w, out + 24) & (outcome == 0)
+            gradients(dndx, detwei, stored, 0)
         }
-        WeightedGradient::Refused(number) => outcome == number,
+        WeightedGradient::Refused(number) => crate::refused(stored, number),
     }
 }
 
-fn hex_grad_shapefunc(w: &[u64; 192], outcome: u32, out: usize) -> bool
-    requires { ⌜ out ≤ 96 ⌝ }
-{
-    let mut p = [0.0; 24];
-    let mut points = [0.0; 72];
-    crate::read(w, 0, &mut p);
-    crate::read(w, 25, &mut points);
-    let n = crate::length_at(w, 24);
-    let i1 = crate::number_at(w, 25 + n);
-    let i2 = crate::number_at(w, 26 + n);
-    let i3 = crate::number_at(w, 27 + n);
-    weighted(hex_grad_at(p, points, n, i1, i2, i3), w, outcome, out)
+fn hex_grad_shapefunc(stored: &Record) -> bool {
+    let points = list(stored, 24);
+    let n = length_of(stored, 24);
+    let i1 = crate::number_at(stored, 25 + n) as usize;
+    let i2 = crate::number_at(stored, 26 + n) as usize;
+    let i3 = crate::number_at(stored, 27 + n) as usize;
+    weighted(
+        hex_weighted_gradient::grad_shapefunc(hexahedron(stored), &points[0..n], i1, i2, i3),
+        stored,
+    )
 }
 
-fn measured(found: Measured, w: &[u64; 192], outcome: u32, out: usize) -> bool
-    requires { ⌜ out ≤ 96 ⌝ }
-{
+fn measured(found: Measured, stored: &Record) -> bool {
     match found {
         Measured::Volume(x) => {
             let r = [x];
-            crate::agree(&r, w, out) & (outcome == 0)
+            crate::agree(&r, stored, 0)
         }
-        Measured::Refused(number) => outcome == number,
+        Measured::Refused(number) => crate::refused(stored, number),
     }
 }
 
-fn hex_volume_by(p: [f64; 24], points: [f64; 72], n: usize) -> Measured
-    requires { ⌜ n ≤ 72 ⌝ }
-{
-    hex_volume::volume(p, crate::first(&points, n))
+fn hex_volume(stored: &Record) -> bool {
+    let points = list(stored, 24);
+    let n = length_of(stored, 24);
+    measured(
+        hex_volume::volume(hexahedron(stored), &points[0..n]),
+        stored,
+    )
 }
 
-fn hex_volume(w: &[u64; 192], outcome: u32, out: usize) -> bool
-    requires { ⌜ out ≤ 96 ⌝ }
-{
-    let mut p = [0.0; 24];
-    let mut points = [0.0; 72];
-    crate::read(w, 0, &mut p);
-    crate::read(w, 25, &mut points);
-    let n = crate::length_at(w, 24);
-    measured(hex_volume_by(p, points, n), w, outcome, out)
-}
-
-fn located(found: Located, w: &[u64; 192], outcome: u32, out: usize) -> bool
-    requires { ⌜ out ≤ 96 ⌝ }
-{
+fn located(found: Located, stored: &Record) -> bool {
     match found {
         Located::Inside(r, s, t) => {
             let at = [r, s, t];
-            crate::agree(&at, w, out) & (outcome == 0)
+            crate::agree(&at, stored, 0)
         }
-        Located::Flat => outcome == 1,
-        Located::Outside => outcome == 2,
+        Located::Flat => crate::refused(stored, 1),
+        Located::Outside => crate::refused(stored, 2),
     }
 }
 
-fn hex_locate(w: &[u64; 192], outcome: u32) -> bool {
-    let mut p = [0.0; 24];
-    crate::read(w, 0, &mut p);
-    located(hex_locate::parametric_coord_for_origin(p), w, outcome, 24)
+fn hex_locate(stored: &Record) -> bool {
+    located(
+        hex_locate::parametric_coord_for_origin(hexahedron(stored)),
+        stored,
+    )
 }
 
-fn hex_iso_position_on_edge(w: &[u64; 192], outcome: u32) -> bool {
-    let mut center = [0.0; 3];
-    crate::read(w, 0, &mut center);
-    let half_width = crate::float_at(w, 3);
-    let i0 = crate::number_at(w, 4) as usize;
-    let i1 = crate::number_at(w, 5) as usize;
-    let val0 = crate::float_at(w, 6);
-    let val1 = crate::float_at(w, 7);
-    match hex_iso_position::iso_position_on_edge(center, half_width, i0, i1, val0, val1) {
+fn hex_iso_position_on_edge(stored: &Record) -> bool {
+    let half_width = crate::float_at(stored, 3);
+    let i0 = crate::number_at(stored, 4) as usize;
+    let i1 = crate::number_at(stored, 5) as usize;
+    let val0 = crate::float_at(stored, 6);
+    let val1 = crate::float_at(stored, 7);
+    match hex_iso_position::iso_position_on_edge(place(stored, 0), half_width, i0, i1, val0, val1) {
         IsoPosition::At(x, y, z) => {
             let r = [x, y, z];
-            crate::agree(&r, w, 8) & (outcome == 0)
+            crate::agree(&r, stored, 0)
         }
-        IsoPosition::Refused(number) => outcome == number,
+        IsoPosition::Refused(number) => crate::refused(stored, number),
     }
 }
 
-fn hex_iso_edges(w: &[u64; 192]) -> bool {
-    let mut center = [0.0; 3];
-    let mut values = [0.0; 8];
-    crate::read(w, 0, &mut center);
-    crate::read(w, 4, &mut values);
-    let found = hex_iso::iso_edges(center, crate::float_at(w, 3), values);
-    let index = [found.index];
-    let positions = found.positions;
-    crate::agree_numbers(&index, w, 12) & crate::agree36(positions, w, 13)
+fn iso_edges(index: u32, positions: [f64; 36], stored: &Record) -> bool {
+    let index = [index];
+    crate::answered(&index, &positions, stored, 0)
 }
 
-fn hex_iso_mask(w: &[u64; 192], outcome: u32) -> bool {
-    match hex_iso_mask::iso_mask(crate::number_at(w, 0)) {
+fn hex_iso_edges(stored: &Record) -> bool {
+    let mut values = [0.0; 8];
+    crate::floats(stored, 4, &mut values);
+    let found = hex_iso::iso_edges(place(stored, 0), crate::float_at(stored, 3), values);
+    let positions = found.positions;
+    iso_edges(found.index, positions, stored)
+}
+
+fn agree_numbers(numbers: &[u32], stored: &Record) -> bool
+    requires { ⌜ length (now numbers) ≤ 255 ⌝ }
+{
+    let none = [0.0; 1];
+    crate::answered(numbers, &none[0..0], stored, 0)
+}
+
+fn hex_iso_mask(stored: &Record) -> bool {
+    match hex_iso_mask::iso_mask(crate::number_at(stored, 0)) {
         IsoMask::Mask(m) => {
             let r = [m];
-            crate::agree_numbers(&r, w, 1) & (outcome == 0)
+            agree_numbers(&r, stored)
         }
-        IsoMask::Refused(number) => outcome == number,
+        IsoMask::Refused(number) => crate::refused(stored, number),
     }
 }
 
-fn hex_subdivide(w: &[u64; 192]) -> bool {
+fn hex_subdivide(stored: &Record) -> bool {
     let mut corner = [0u32; 8];
     let mut edge = [0u32; 12];
     let mut quad = [0u32; 6];
-    crate::read_numbers(w, 0, &mut corner);
-    crate::read_numbers(w, 8, &mut edge);
-    crate::read_numbers(w, 20, &mut quad);
-    let r = hex_children::subdivide(corner, edge, quad, crate::number_at(w, 26));
-    crate::agree_numbers(&r, w, 27)
+    crate::numbers(stored, 0, &mut corner);
+    crate::numbers(stored, 8, &mut edge);
+    crate::numbers(stored, 20, &mut quad);
+    let r = hex_children::subdivide(corner, edge, quad, crate::number_at(stored, 26));
+    agree_numbers(&r, stored)
 }
 
-fn prism_shapefunc(w: &[u64; 192]) -> bool {
-    let mut pco = [0.0; 3];
-    crate::read(w, 0, &mut pco);
-    let r = prism_shape::shapefunc(pco);
-    crate::agree(&r, w, 3)
+fn prism_shapefunc(stored: &Record) -> bool {
+    let r = prism_shape::shapefunc(place(stored, 0));
+    crate::agree(&r, stored, 0)
 }
 
-fn prism_dndr(w: &[u64; 192]) -> bool {
-    let mut pco = [0.0; 3];
-    crate::read(w, 0, &mut pco);
-    let r = prism_shape::dndr(pco);
-    crate::agree(&r, w, 3)
+fn prism_dndr(stored: &Record) -> bool {
+    let r = prism_shape::dndr(place(stored, 0));
+    crate::agree(&r, stored, 0)
 }
 
-fn prism_dxdr(w: &[u64; 192]) -> bool {
-    let mut p = [0.0; 18];
-    let mut pco = [0.0; 3];
-    crate::read(w, 0, &mut p);
-    crate::read(w, 18, &mut pco);
-    let r = prism_image::dxdr(p, pco);
-    crate::agree(&r, w, 21)
+fn prism_dxdr(stored: &Record) -> bool {
+    let r = prism_image::dxdr(prism(stored), place(stored, 18));
+    crate::agree(&r, stored, 0)
 }
 
-fn prism_volume_by(
-    p: [f64; 18],
-    line: [f64; 72],
-    n: usize,
-    triangle: [f64; 72],
-    m: usize,
-) -> Measured
-    requires { ⌜ (n ≤ 72) × (m ≤ 72) ⌝ }
-{
-    prism_volume::volume(p, crate::first(&line, n), crate::first(&triangle, m))
+fn prism_volume(stored: &Record) -> bool {
+    let line = list(stored, 18);
+    let n = length_of(stored, 18);
+    let triangle = list(stored, 19 + n);
+    let m = length_of(stored, 19 + n);
+    measured(
+        prism_volume::volume(prism(stored), &line[0..n], &triangle[0..m]),
+        stored,
+    )
 }
 
-fn prism_volume(w: &[u64; 192], outcome: u32, out: usize) -> bool
-    requires { ⌜ out ≤ 96 ⌝ }
-{
-    let mut p = [0.0; 18];
-    let mut line = [0.0; 72];
-    let mut triangle = [0.0; 72];
-    crate::read(w, 0, &mut p);
-    crate::read(w, 19, &mut line);
-    let n = crate::length_at(w, 18);
-    crate::read(w, 20 + n, &mut triangle);
-    let m = crate::length_at(w, 19 + n);
-    measured(prism_volume_by(p, line, n, triangle, m), w, outcome, out)
+fn prism_locate(stored: &Record) -> bool {
+    located(
+        prism_locate::parametric_coord_for_origin(prism(stored)),
+        stored,
+    )
 }
 
-fn prism_locate(w: &[u64; 192], outcome: u32) -> bool {
-    let mut p = [0.0; 18];
-    crate::read(w, 0, &mut p);
-    located(prism_locate::parametric_coord_for_origin(p), w, outcome, 18)
-}
-
-fn prism_subdivide(w: &[u64; 192]) -> bool {
+fn prism_subdivide(stored: &Record) -> bool {
     let mut corner = [0u32; 6];
     let mut edge = [0u32; 9];
     let mut quad = [0u32; 3];
-    crate::read_numbers(w, 0, &mut corner);
-    crate::read_numbers(w, 6, &mut edge);
-    crate::read_numbers(w, 15, &mut quad);
+    crate::numbers(stored, 0, &mut corner);
+    crate::numbers(stored, 6, &mut edge);
+    crate::numbers(stored, 15, &mut quad);
     let r = prism_children::subdivide(corner, edge, quad);
-    crate::agree_numbers(&r, w, 18)
+    agree_numbers(&r, stored)
 }
 
-fn hex_check(w: &[u64; 192], outcome: u32) -> bool {
-    let mut p = [0.0; 24];
-    crate::read(w, 0, &mut p);
+fn hex_check(stored: &Record) -> bool {
     let at = Point {
-        x: crate::float_at(w, 24),
-        y: crate::float_at(w, 25),
-        z: crate::float_at(w, 26),
+        x: crate::float_at(stored, 24),
+        y: crate::float_at(stored, 25),
+        z: crate::float_at(stored, 26),
     };
-    match probe::check(p, at, crate::float_at(w, 27)) {
-        Verdict::Accepted => outcome == 0,
-        Verdict::Refused(number) => outcome == number,
+    match probe::check(hexahedron(stored), at, crate::float_at(stored, 27)) {
+        Verdict::Accepted => crate::refused(stored, 0),
+        Verdict::Refused(number) => crate::refused(stored, number),
     }
 }
 
-fn hex_locate_checked(w: &[u64; 192], outcome: u32) -> bool {
-    let mut p = [0.0; 24];
-    crate::read(w, 0, &mut p);
-    match probe::locate_checked(p, crate::float_at(w, 24)) {
+fn hex_locate_checked(stored: &Record) -> bool {
+    match probe::locate_checked(hexahedron(stored), crate::float_at(stored, 24)) {
         Checked::Inside(r, s, t) => {
             let at = [r, s, t];
-            crate::agree(&at, w, 25) & (outcome == 0)
+            crate::agree(&at, stored, 0)
         }
-        Checked::Refused(number) => outcome == number,
+        Checked::Refused(number) => crate::refused(stored, number),
     }
 }
 
-// Whether record number `function` is answered as it was.
-pub fn agrees(function: u8, w: &[u64; 192], outcome: u32, out: usize) -> bool {
-    if out > 96 {
-        return false;
-    }
-    match function {
-        1 => mat3_transpose(w),
-        2 => mat3_mult_vec(w),
-        3 => mat3_determinant(w),
-        4 => mat3_try_inverse(w, outcome),
-        5 => hex_shapefunc(w),
-        6 => hex_dndr(w),
-        7 => hex_dxdr(w),
-        8 => hex_grad_shapefunc_from_dndr(w),
-        9 => hex_dndx(w),
-        10 => hex_grad_shapefunc(w, outcome, out),
-        11 => hex_volume(w, outcome, out),
-        12 => hex_locate(w, outcome),
-        13 => hex_iso_position_on_edge(w, outcome),
-        14 => hex_iso_edges(w),
-        15 => hex_iso_mask(w, outcome),
-        16 => hex_subdivide(w),
-        17 => prism_shapefunc(w),
-        18 => prism_dndr(w),
-        19 => prism_dxdr(w),
-        20 => prism_volume(w, outcome, out),
-        21 => prism_locate(w, outcome),
-        22 => prism_subdivide(w),
-        23 => hex_check(w, outcome),
-        24 => hex_locate_checked(w, outcome),
+// Whether a record is answered as it was.
+pub fn agrees(stored: &Record) -> bool {
+    match stored[0] {
+        1 => mat3_transpose(stored),
+        2 => mat3_mult_vec(stored),
+        3 => mat3_determinant(stored),
+        4 => mat3_try_inverse(stored),
+        5 => hex_shapefunc(stored),
+        6 => hex_dndr(stored),
+        7 => hex_dxdr(stored),
+        8 => hex_grad_shapefunc_from_dndr(stored),
+        9 => hex_dndx(stored),
+        10 => hex_grad_shapefunc(stored),
+        11 => hex_volume(stored),
+        12 => hex_locate(stored),
+        13 => hex_iso_position_on_edge(stored),
+        14 => hex_iso_edges(stored),
+        15 => hex_iso_mask(stored),
+        16 => hex_subdivide(stored),
+        17 => prism_shapefunc(stored),
+        18 => prism_dndr(stored),
+        19 => prism_dxdr(stored),
+        20 => prism_volume(stored),
+        21 => prism_locate(stored),
+        22 => prism_subdivide(stored),
+        23 => hex_check(stored),
+        24 => hex_locate_checked(stored),
         _ => false,
     }
 }

@@ -1,7 +1,30 @@
-// Document 01's worked examples that are run and not proved. stdout holds what they have to print.
+// Document 01's worked examples that are run and not proved, and one for each refusal that a mesh meets. stdout holds what they have to print.
 use cell::Located;
+use descendant::Descended;
+use hxm::Reading;
+use libc::STDIN_FILENO;
 use libc::STDOUT_FILENO;
 use probe::Checked;
+use refine::Refined;
+ghost use Prim.Native.Nat.{_≤_};
+
+// The two cells of document 01's example, which share a face.
+const TWO_CELLS: [u32; 16] = [0, 1, 2, 3, 4, 5, 6, 7, 1, 8, 9, 2, 5, 11, 10, 6];
+
+fn say(number: u32) {
+    io::write_all(STDOUT_FILENO, b" ");
+    io::print_decimal(STDOUT_FILENO, number as u64);
+}
+
+fn end_line() {
+    io::write_all(STDOUT_FILENO, b"\n");
+}
+
+fn say_refused(number: u32) {
+    io::write_all(STDOUT_FILENO, b" refused");
+    say(number);
+    end_line();
+}
 
 // The box from x0 to x1, y0 to y1 and z0 to z1.
 fn corners(x0: f64, x1: f64, y0: f64, y1: f64, z0: f64, z1: f64) -> [f64; 24] {
@@ -33,49 +56,198 @@ fn corners(x0: f64, x1: f64, y0: f64, y1: f64, z0: f64, z1: f64) -> [f64; 24] {
     ]
 }
 
-fn say_refused(number: u64) {
-    io::write_all(STDOUT_FILENO, b"refused ");
-    io::print_decimal(STDOUT_FILENO, number);
-    io::write_all(STDOUT_FILENO, b"\n");
+fn say_inside(r: f64, s: f64, t: f64) {
+    if (r == 0.0) & (s == 0.0) & (t == 0.0) {
+        io::write_all(STDOUT_FILENO, b" inside at zero\n");
+    } else {
+        io::write_all(STDOUT_FILENO, b" inside elsewhere\n");
+    }
 }
 
-fn say_located(found: Located) {
-    match found {
-        Located::Inside(r, s, t) => {
-            if (r == 0.0) & (s == 0.0) & (t == 0.0) {
-                io::write_all(STDOUT_FILENO, b"inside at zero\n");
-            } else {
-                io::write_all(STDOUT_FILENO, b"inside elsewhere\n");
-            }
-        }
+fn locate(label: &[u8], p: [f64; 24]) {
+    io::write_all(STDOUT_FILENO, label);
+    match hex_locate::parametric_coord_for_origin(p) {
+        Located::Inside(r, s, t) => say_inside(r, s, t),
         Located::Flat => say_refused(1),
         Located::Outside => say_refused(2),
     }
 }
 
-fn say_checked(found: Checked) {
-    match found {
-        Checked::Inside(r, s, t) => say_located(Located::Inside(r, s, t)),
-        Checked::Refused(n) => say_refused(n as u64),
+fn locate_checked(label: &[u8], p: [f64; 24]) {
+    io::write_all(STDOUT_FILENO, label);
+    match probe::locate_checked(p, 1.0) {
+        Checked::Inside(r, s, t) => say_inside(r, s, t),
+        Checked::Refused(number) => say_refused(number),
     }
 }
 
+fn located() {
+    let cube = corners(-2.0, 2.0, -2.0, 2.0, -2.0, 2.0);
+    let beside = corners(3.0, 7.0, -1.0, 1.0, -1.0, 1.0);
+    let flat = [1.0; 24];
+    let unknown = corners(0.0 / 0.0, 2.0, -2.0, 2.0, -2.0, 2.0);
+    locate(b"cube [-2,2]:", cube);
+    locate(b"x in [3,7], y and z in [-1,1]:", beside);
+    locate(b"all corners (1,1,1):", flat);
+    locate(b"a NaN corner:", unknown);
+    locate_checked(b"checked, with T = 1:", cube);
+    locate_checked(b"checked, x in [3,7]:", beside);
+    locate_checked(b"checked, all corners (1,1,1):", flat);
+    locate_checked(b"checked, a NaN corner:", unknown);
+}
+
+fn say_refined(found: Refined) {
+    match found {
+        Refined::Next(next) => {
+            io::write_all(STDOUT_FILENO, b" next");
+            say(next);
+            end_line();
+        }
+        Refined::Refused(number) => say_refused(number),
+    }
+}
+
+fn say_signed(x: i32) {
+    if x == 0 {
+        io::write_all(STDOUT_FILENO, b" 0");
+    } else if x == 1 {
+        io::write_all(STDOUT_FILENO, b" 1");
+    } else if x == -1 {
+        io::write_all(STDOUT_FILENO, b" -1");
+    } else {
+        io::write_all(STDOUT_FILENO, b" another");
+    }
+}
+
+fn descend(label: &[u8], path: &[u32], corner: u32) {
+    io::write_all(STDOUT_FILENO, label);
+    match descendant::descendant(path, corner) {
+        Descended::At(x, y, z) => {
+            say_signed(x);
+            say_signed(y);
+            say_signed(z);
+            end_line();
+        }
+        Descended::Refused(number) => say_refused(number),
+    }
+}
+
+fn say_read(found: Reading) {
+    match found {
+        Reading::Mesh(nodes, cells) => {
+            say(nodes);
+            say(cells);
+            end_line();
+        }
+        Reading::Refused(number) => say_refused(number),
+    }
+}
+
+// Refines a mesh into room for two cells' children.
+fn refine(label: &[u8], n: u32, cells: &[u32]) {
+    let mut out = [0u32; 128];
+    io::write_all(STDOUT_FILENO, label);
+    say_refined(refine::refine(n, cells, &mut out));
+}
+
+fn shared_face() {
+    let cells = TWO_CELLS;
+    let mut out = [0u32; 128];
+    io::write_all(STDOUT_FILENO, b"two cells of 12 nodes:");
+    say_refined(refine::refine(12, &cells, &mut out));
+    io::write_all(STDOUT_FILENO, b"the middle of the face that they share:");
+    say(out[14]);
+    say(out[71]);
+    end_line();
+}
+
+fn refined() {
+    let cells = TWO_CELLS;
+    let long = [0u32; 1032];
+    refine(b"no cell:", 12, &cells[0..0]);
+    refine(b"1,025 nodes:", 1025, &cells);
+    refine(b"129 cells:", 12, &long);
+    refine(b"15 numbers:", 12, &cells[0..15]);
+}
+
+fn with_last_node(label: &[u8], node: u32) {
+    let mut cells = TWO_CELLS;
+    cells[15] = node;
+    refine(label, 12, &cells);
+}
+
+fn short_output() {
+    let cells = TWO_CELLS;
+    let mut out = [1u32; 127];
+    io::write_all(STDOUT_FILENO, b"room for 127 numbers:");
+    say_refined(refine::refine(12, &cells, &mut out));
+    io::write_all(STDOUT_FILENO, b"what the refusal left in it:");
+    say(out[0]);
+    say(out[126]);
+    end_line();
+}
+
+fn descended() {
+    let path = [6u32; 21];
+    let outside = [8u32; 1];
+    descend(b"path (6), corner 0:", &path[0..1], 0);
+    descend(b"no path, corner 1:", &path[0..0], 1);
+    descend(b"depth 21:", &path, 0);
+    descend(b"octant 8:", &outside, 0);
+    descend(b"corner 8:", &path[0..1], 8);
+}
+
+// The next file on standard input, 237 bytes or what is left, as `hexkids` prints it. Each file is document 01's, eight nodes at zero and the cell
+// 0..7, with the damage that its label names.
+fn file(label: &[u8]) {
+    let mut bytes = [0u8; 237];
+    let size = io::read_full(STDIN_FILENO, &mut bytes);
+    let mut text = [0u8; 90146];
+    let end = kids::list(&bytes[..size], &mut text);
+    io::write_all(STDOUT_FILENO, label);
+    io::write_all(STDOUT_FILENO, &text[..end]);
+}
+
+// The next file, read into lists with room for so many coordinates and node numbers; and what then stands at their ends.
+fn read_into(coords: usize, numbers: usize)
+    requires { ⌜ (coords ≤ 25) × (numbers ≤ 9) ⌝ }
+{
+    let mut bytes = [0u8; 237];
+    let size = io::read_full(STDIN_FILENO, &mut bytes);
+    let mut nodes = [1u64; 25];
+    let mut cells = [1u32; 9];
+    io::write_all(STDOUT_FILENO, b"read into lists:");
+    say_read(hxm::read(
+        &bytes[..size],
+        &mut nodes[0..coords],
+        &mut cells[0..numbers],
+    ));
+    io::write_all(STDOUT_FILENO, b"their last numbers:");
+    io::print_decimal(STDOUT_FILENO, nodes[24]);
+    say(cells[7]);
+    say(cells[8]);
+    end_line();
+}
+
 fn main() {
-    io::write_all(STDOUT_FILENO, b"cube [-2,2]: ");
-    say_located(hex_locate::parametric_coord_for_origin(corners(-2.0, 2.0, -2.0, 2.0, -2.0, 2.0)));
-    io::write_all(STDOUT_FILENO, b"x in [3,7], y and z in [-1,1]: ");
-    say_located(hex_locate::parametric_coord_for_origin(corners(3.0, 7.0, -1.0, 1.0, -1.0, 1.0)));
-    io::write_all(STDOUT_FILENO, b"all corners (1,1,1): ");
-    say_located(hex_locate::parametric_coord_for_origin([1.0; 24]));
-    io::write_all(STDOUT_FILENO, b"a NaN corner: ");
-    let nan = 0.0 / 0.0;
-    say_located(hex_locate::parametric_coord_for_origin(corners(nan, 2.0, -2.0, 2.0, -2.0, 2.0)));
-    io::write_all(STDOUT_FILENO, b"checked, with T = 1: ");
-    say_checked(probe::locate_checked(corners(-2.0, 2.0, -2.0, 2.0, -2.0, 2.0), 1.0));
-    io::write_all(STDOUT_FILENO, b"checked, x in [3,7]: ");
-    say_checked(probe::locate_checked(corners(3.0, 7.0, -1.0, 1.0, -1.0, 1.0), 1.0));
-    io::write_all(STDOUT_FILENO, b"checked, all corners (1,1,1): ");
-    say_checked(probe::locate_checked([1.0; 24], 1.0));
-    io::write_all(STDOUT_FILENO, b"checked, a NaN corner: ");
-    say_checked(probe::locate_checked(corners(nan, 2.0, -2.0, 2.0, -2.0, 2.0), 1.0));
+    located();
+    shared_face();
+    refined();
+    short_output();
+    with_last_node(b"node 12 of 12:", 12);
+    with_last_node(b"node 8 twice:", 8);
+    descended();
+    file(b"the sample file:\n");
+    file(b"another mark: ");
+    file(b"version 257: ");
+    file(b"1,032 nodes: ");
+    file(b"129 cells: ");
+    file(b"7 nodes, which leaves bytes after: ");
+    file(b"9 nodes, for which there are too few bytes: ");
+    file(b"node 8 of 8: ");
+    file(b"node 6 twice: ");
+    read_into(23, 9);
+    read_into(25, 7);
+    read_into(25, 9);
+    file(b"12 bytes: ");
 }

@@ -6,10 +6,10 @@ use Rattle.replay.proofs.word.Statement.{statement}
 use Rattle.replay.proofs.word.Tie as tie
 
 abbrev Inv-loop : tie.InvT-loop
-Inv-loop body i x₀ k₀ x k = k ≤ 8
+Inv-loop stored i x₀ k₀ x k = k ≤ 8
 
 abbrev μ-loop : tie.MeasureT-loop
-μ-loop body i x₀ k₀ x k = k
+μ-loop stored i x₀ k₀ x k = k
 
 pub word-spec : {M : Type 1} → statement M
 word-spec =
@@ -17,6 +17,7 @@ word-spec =
     (tie.spec
     Inv-loop
     μ-loop
+    (λ c. omega arith)
     (λ c. omega arith)
     (λ c. omega arith)
     (λ c. omega arith)

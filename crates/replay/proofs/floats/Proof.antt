@@ -1,29 +1,27 @@
--- `replay::read_numbers` is safe and keeps the length: each turn stores one number. Assumes nothing.
+-- `replay::floats` is safe and keeps the length: each turn stores one float. Assumes nothing.
 use Prim.Native.Nat.{_-_, _≤_}
 use mathlib.Core.Path.{_≡_, refl}
 use native.Mathlib.Omega.{arith}
 use lib.ListN.{length, length-set}
 use borrow.Author.Needs.{needs}
-use Rattle.replay.proofs.read_numbers.Statement.{statement}
-use Rattle.replay.proofs.read_numbers.Tie as tie
+use Rattle.replay.proofs.floats.Statement.{statement}
+use Rattle.replay.proofs.floats.Tie as tie
 
 abbrev Inv-loop : tie.InvT-loop
-Inv-loop w from out₀ i₀ out i = (length out ≡ length out₀) × (i ≤ length out)
+Inv-loop stored from out₀ i₀ out i = (length out ≡ length out₀) × (i ≤ length out)
 
 abbrev μ-loop : tie.MeasureT-loop
-μ-loop w from out₀ i₀ out i = length out - i
+μ-loop stored from out₀ i₀ out i = length out - i
 
-pub read-numbers-spec : {M : Type 1} → statement M
-read-numbers-spec =
+pub floats-spec : {M : Type 1} → statement M
+floats-spec =
     tie.close
     (tie.spec
     Inv-loop
     μ-loop
     (λ c. (refl, omega arith))
     (λ c. omega arith)
-    (λ c. omega arith)
-    (λ c. omega arith)
-    (λ c κs. search needs)
+    (λ c κs. omega arith)
     (λ c. omega arith)
     (λ c. omega arith)
     (λ c. omega arith)
