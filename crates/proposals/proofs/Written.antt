@@ -28,10 +28,10 @@ ladder {P} n room long short judged = by (ltb 256 n) (ltb room n) refl refl
     by false true seven eight = short seven eight
     by false false seven eight = judged seven eight
 
--- no more turns than records, numbers that have room, and 256
+-- no more turns than numbers that have room, records, and 256
 pub record Few (n room turns : ℕ) : Type 0 where
-  pub in-list : turns ≤ n
   pub in-room : turns ≤ room
+  pub in-list : turns ≤ n
   pub small : turns ≤ 256
 
 pub few : (n room : ℕ) → Few n room (turnsOf n room)
