@@ -46,7 +46,7 @@ map-at f (x ∷ xs) (suc k) d e below = map-at f xs k d e (le-of-suc-le-suc belo
 pub each-left : (n room : ℕ) (js old : List ℕ) (Q : ℕ → ℕ → Type 0) → length js ≡ n → ((k : ℕ) → k < turnsOf n room → Q k (getD js k 0))
     → (z : ℕ) → zerosIn (unlessRefused n room js) ≡ answered z → (k : ℕ) → k < n → Q k (getD (left (unlessRefused n room js) old) k 0)
 each-left n room js old Q long turn z e k below =
-    ladder n room (λ seven. absurd (never 7 z (simp seven at e))) (λ seven eight. absurd (never 8 z (simp (seven, eight) at e)))
+    ladder n room (λ short seven eight. absurd (never 7 z (simp (seven, eight) at e))) (λ seven eight. absurd (never 8 z (simp (seven, eight) at e)))
     (λ seven eight.
     let mine : k < turnsOf n room = rw (all-turns n room seven eight) below in
     simp (seven, eight)

@@ -19,25 +19,25 @@ pub place-fits : (i n size : ℕ) → i < n → n * size < 2 ^ 63 → i * size <
 place-fits i n size below room = lt-of-le-of-lt (mul-le-mul-right size (le-of-lt below)) (lt-trans room (lit< tt))
 
 -- a list is too long, or its output is too short, or it is judged
-pub ladder : {P : Type 0} (n room : ℕ) → (ltb 256 n ≡ true → P) → (ltb 256 n ≡ false → ltb room n ≡ true → P)
-    → (ltb 256 n ≡ false → ltb room n ≡ false → P) → P
+pub ladder : {P : Type 0} (n room : ℕ) → ((short : Bool) → ltb 256 n ≡ true → ltb room n ≡ short → P)
+    → (ltb 256 n ≡ false → ltb room n ≡ true → P) → (ltb 256 n ≡ false → ltb room n ≡ false → P) → P
 ladder {P} n room long short judged = by (ltb 256 n) (ltb room n) refl refl
   where
     by : (y z : Bool) → ltb 256 n ≡ y → ltb room n ≡ z → P
-    by true z seven eight = long seven
+    by true z seven eight = long z seven eight
     by false true seven eight = short seven eight
     by false false seven eight = judged seven eight
 
--- no more turns than records, numbers that have room, and 256
+-- no more turns than numbers that have room, records, and 256
 pub record Few (n room turns : ℕ) : Type 0 where
-  pub in-list : turns ≤ n
   pub in-room : turns ≤ room
+  pub in-list : turns ≤ n
   pub small : turns ≤ 256
 
 pub few : (n room : ℕ) → Few n room (turnsOf n room)
 unfolding turnsOf
 few n room =
-    ladder n room (λ seven. simp seven (omega arith)) (λ seven eight. simp (seven, eight) (omega arith))
+    ladder n room (λ short seven eight. simp (seven, eight) (omega arith)) (λ seven eight. simp (seven, eight) (omega arith))
     (λ seven eight.
     let short = ltb-false 256 n seven in
     let fits = ltb-false room n eight in
@@ -102,8 +102,9 @@ module _ (n room : ℕ) (js : List ℕ) (all : length js ≡ n) where
   -- a refused list has no turn, and the count is then as good as any
   pub all-counted : unlessRefused n room (zeros (take (turnsOf n room) js)) ≡ zerosIn (unlessRefused n room js)
   unfolding turnsOf
-  all-counted = ladder n room (λ seven. simp seven) (λ seven eight. simp (seven, eight)) (λ seven eight. simp (seven, eight, all-taken))
+  all-counted = ladder n room (λ short seven eight. simp (seven, eight)) (λ seven eight. simp (seven, eight)) (λ seven eight. simp (seven, eight, all-taken))
 
   pub all-written : (old : List ℕ) → overwritten js old (turnsOf n room) ≡ left (unlessRefused n room js) old
   unfolding turnsOf
-  all-written old = ladder n room (λ seven. simp seven) (λ seven eight. simp (seven, eight)) (λ seven eight. simp (seven, eight, all-taken, all))
+  all-written old =
+      ladder n room (λ short seven eight. simp (seven, eight)) (λ seven eight. simp (seven, eight)) (λ seven eight. simp (seven, eight, all-taken, all))

@@ -7,8 +7,8 @@ use Rattle.binary64.specs.Exact.{sizeIn, isNegative}
 use Rattle.rounding.proofs.Within.{Within}
 use Rattle.rounding.proofs.Units.{Held, plus, minus}
 
--- What a value is counted in: parts of a unit of the format, of which `whole` make one. And what its roundings are counted in: with B = 2 ^ prec, one costs one
--- part in B, and `spare` parts in B * B are set aside in each for what the roundings make together.
+-- What a value is counted in: parts of a unit of the format, of which `whole` make one. With B = 2 ^ prec a rounding moves a value by at most one part in B of
+-- it, and is charged `spare` parts in B * B more, for what the roundings make together.
 pub record Scale : Type 0 where
   pub format : Format
   pub spare : ℕ
@@ -18,11 +18,11 @@ pub record Scale : Type 0 where
 abbrev pub over : Scale → ℕ → Scale
 over s d = record { format = s .format; spare = s .spare; whole = d }
 
--- B
+-- B, for the finest parts
 abbrev pub fine : Scale → ℕ
 fine s = 2 ^ prec (s .format)
 
--- what j roundings cost, in B * B-ths
+-- what j roundings are charged, in parts in B * B
 abbrev pub cost : Scale → ℕ → ℕ
 cost s j = j * (fine s + s .spare)
 

@@ -1,4 +1,4 @@
--- The error of a sum of rounded terms, over any number of them: each addition is one rounding more, as long as the roundings cost at most what is spare.
+-- The error of a sum of rounded terms, over any number of them: each addition is one rounding more, as long as the roundings cost at most `spare` parts in B.
 -- Assumes nothing.
 use Prim.Native.Nat.{ℕ, zero, suc, _+_, _*_, _≤_, _<_, suc-le-suc}
 use native.Mathlib.Nat.{le-trans, le-refl, mul-le-mul-right, mul-pos, suc-add, add-suc, zero-add, le-suc, zero-lt-suc}
