@@ -1,5 +1,6 @@
-// Whether each function that is compared answers a record's input words as was stored.
+// Whether the function that a record names answers its input words as was stored.
 use crate::Record;
+use crate::agree;
 use cell::Located;
 use cell::Measured;
 use cell::Point;
@@ -54,56 +55,22 @@ fn length_of(stored: &Record, i: usize) -> usize
     crate::length_at(stored, i, 72)
 }
 
-fn mat3_transpose(stored: &Record) -> bool {
-    let r = mat3_col_major::transpose(matrix(stored));
-    crate::agree(&r, stored, 0)
-}
-
-fn mat3_mult_vec(stored: &Record) -> bool {
-    let r = mat3_col_major::mult_vec(matrix(stored), place(stored, 9));
-    crate::agree(&r, stored, 0)
-}
-
-fn mat3_determinant(stored: &Record) -> bool {
-    let r = [mat3_col_major::determinant(matrix(stored))];
-    crate::agree(&r, stored, 0)
-}
-
 fn mat3_try_inverse(stored: &Record) -> bool {
     match mat3_inverse::try_inverse(matrix(stored)) {
-        Inverse::Of(a, b, c, d, e, f, g, h, i) => {
-            let r = [a, b, c, d, e, f, g, h, i];
-            crate::agree(&r, stored, 0)
-        }
+        Inverse::Of(a, b, c, d, e, f, g, h, i) => agree(&[a, b, c, d, e, f, g, h, i], stored, 0),
         Inverse::ZeroDeterminant => crate::refused(stored, 1),
     }
 }
 
-fn hex_shapefunc(stored: &Record) -> bool {
-    let r = hex_shape::shapefunc(place(stored, 0));
-    crate::agree(&r, stored, 0)
-}
-
-fn hex_dndr(stored: &Record) -> bool {
-    let r = hex_shape::dndr(place(stored, 0));
-    crate::agree(&r, stored, 0)
-}
-
-fn hex_dxdr(stored: &Record) -> bool {
-    let r = hex_image::dxdr(hexahedron(stored), place(stored, 24));
-    crate::agree(&r, stored, 0)
-}
-
 fn shape_values(shape: [f64; 8], stored: &Record) -> bool {
-    crate::agree(&shape, stored, 0)
+    agree(&shape, stored, 0)
 }
 
 // Whether the gradients at the corners, and one number more, are the output from its word `at` on.
 fn gradients(dndx: [f64; 24], last: f64, stored: &Record, at: usize) -> bool
     requires { ⌜ at ≤ 8 ⌝ }
 {
-    let last = [last];
-    crate::agree(&dndx, stored, at) & crate::agree(&last, stored, at + 24)
+    agree(&dndx, stored, at) & agree(&[last], stored, at + 24)
 }
 
 fn hex_grad_shapefunc_from_dndr(stored: &Record) -> bool {
@@ -175,10 +142,7 @@ fn hex_grad_shapefunc(stored: &Record) -> bool {
 
 fn measured(found: Measured, stored: &Record) -> bool {
     match found {
-        Measured::Volume(x) => {
-            let r = [x];
-            crate::agree(&r, stored, 0)
-        }
+        Measured::Volume(x) => agree(&[x], stored, 0),
         Measured::Refused(number) => crate::refused(stored, number),
     }
 }
@@ -194,20 +158,10 @@ fn hex_volume(stored: &Record) -> bool {
 
 fn located(found: Located, stored: &Record) -> bool {
     match found {
-        Located::Inside(r, s, t) => {
-            let at = [r, s, t];
-            crate::agree(&at, stored, 0)
-        }
+        Located::Inside(r, s, t) => agree(&[r, s, t], stored, 0),
         Located::Flat => crate::refused(stored, 1),
         Located::Outside => crate::refused(stored, 2),
     }
-}
-
-fn hex_locate(stored: &Record) -> bool {
-    located(
-        hex_locate::parametric_coord_for_origin(hexahedron(stored)),
-        stored,
-    )
 }
 
 fn hex_iso_position_on_edge(stored: &Record) -> bool {
@@ -217,17 +171,13 @@ fn hex_iso_position_on_edge(stored: &Record) -> bool {
     let val0 = crate::float_at(stored, 6);
     let val1 = crate::float_at(stored, 7);
     match hex_iso_position::iso_position_on_edge(place(stored, 0), half_width, i0, i1, val0, val1) {
-        IsoPosition::At(x, y, z) => {
-            let r = [x, y, z];
-            crate::agree(&r, stored, 0)
-        }
+        IsoPosition::At(x, y, z) => agree(&[x, y, z], stored, 0),
         IsoPosition::Refused(number) => crate::refused(stored, number),
     }
 }
 
 fn iso_edges(index: u32, positions: [f64; 36], stored: &Record) -> bool {
-    let index = [index];
-    crate::answered(&index, &positions, stored, 0)
+    crate::answered(&[index], &positions, stored, 0)
 }
 
 fn hex_iso_edges(stored: &Record) -> bool {
@@ -247,10 +197,7 @@ fn agree_numbers(numbers: &[u32], stored: &Record) -> bool
 
 fn hex_iso_mask(stored: &Record) -> bool {
     match hex_iso_mask::iso_mask(crate::number_at(stored, 0)) {
-        IsoMask::Mask(m) => {
-            let r = [m];
-            agree_numbers(&r, stored)
-        }
+        IsoMask::Mask(m) => agree_numbers(&[m], stored),
         IsoMask::Refused(number) => crate::refused(stored, number),
     }
 }
@@ -266,21 +213,6 @@ fn hex_subdivide(stored: &Record) -> bool {
     agree_numbers(&r, stored)
 }
 
-fn prism_shapefunc(stored: &Record) -> bool {
-    let r = prism_shape::shapefunc(place(stored, 0));
-    crate::agree(&r, stored, 0)
-}
-
-fn prism_dndr(stored: &Record) -> bool {
-    let r = prism_shape::dndr(place(stored, 0));
-    crate::agree(&r, stored, 0)
-}
-
-fn prism_dxdr(stored: &Record) -> bool {
-    let r = prism_image::dxdr(prism(stored), place(stored, 18));
-    crate::agree(&r, stored, 0)
-}
-
 fn prism_volume(stored: &Record) -> bool {
     let line = list(stored, 18);
     let n = length_of(stored, 18);
@@ -288,13 +220,6 @@ fn prism_volume(stored: &Record) -> bool {
     let m = length_of(stored, 19 + n);
     measured(
         prism_volume::volume(prism(stored), &line[0..n], &triangle[0..m]),
-        stored,
-    )
-}
-
-fn prism_locate(stored: &Record) -> bool {
-    located(
-        prism_locate::parametric_coord_for_origin(prism(stored)),
         stored,
     )
 }
@@ -324,10 +249,7 @@ fn hex_check(stored: &Record) -> bool {
 
 fn hex_locate_checked(stored: &Record) -> bool {
     match probe::locate_checked(hexahedron(stored), crate::float_at(stored, 24)) {
-        Checked::Inside(r, s, t) => {
-            let at = [r, s, t];
-            crate::agree(&at, stored, 0)
-        }
+        Checked::Inside(r, s, t) => agree(&[r, s, t], stored, 0),
         Checked::Refused(number) => crate::refused(stored, number),
     }
 }
@@ -335,27 +257,45 @@ fn hex_locate_checked(stored: &Record) -> bool {
 // Whether a record is answered as it was.
 pub fn agrees(stored: &Record) -> bool {
     match stored[0] {
-        1 => mat3_transpose(stored),
-        2 => mat3_mult_vec(stored),
-        3 => mat3_determinant(stored),
+        1 => agree(&mat3_col_major::transpose(matrix(stored)), stored, 0),
+        2 => agree(
+            &mat3_col_major::mult_vec(matrix(stored), place(stored, 9)),
+            stored,
+            0,
+        ),
+        3 => agree(&[mat3_col_major::determinant(matrix(stored))], stored, 0),
         4 => mat3_try_inverse(stored),
-        5 => hex_shapefunc(stored),
-        6 => hex_dndr(stored),
-        7 => hex_dxdr(stored),
+        5 => agree(&hex_shape::shapefunc(place(stored, 0)), stored, 0),
+        6 => agree(&hex_shape::dndr(place(stored, 0)), stored, 0),
+        7 => agree(
+            &hex_image::dxdr(hexahedron(stored), place(stored, 24)),
+            stored,
+            0,
+        ),
         8 => hex_grad_shapefunc_from_dndr(stored),
         9 => hex_dndx(stored),
         10 => hex_grad_shapefunc(stored),
         11 => hex_volume(stored),
-        12 => hex_locate(stored),
+        12 => located(
+            hex_locate::parametric_coord_for_origin(hexahedron(stored)),
+            stored,
+        ),
         13 => hex_iso_position_on_edge(stored),
         14 => hex_iso_edges(stored),
         15 => hex_iso_mask(stored),
         16 => hex_subdivide(stored),
-        17 => prism_shapefunc(stored),
-        18 => prism_dndr(stored),
-        19 => prism_dxdr(stored),
+        17 => agree(&prism_shape::shapefunc(place(stored, 0)), stored, 0),
+        18 => agree(&prism_shape::dndr(place(stored, 0)), stored, 0),
+        19 => agree(
+            &prism_image::dxdr(prism(stored), place(stored, 18)),
+            stored,
+            0,
+        ),
         20 => prism_volume(stored),
-        21 => prism_locate(stored),
+        21 => located(
+            prism_locate::parametric_coord_for_origin(prism(stored)),
+            stored,
+        ),
         22 => prism_subdivide(stored),
         23 => hex_check(stored),
         24 => hex_locate_checked(stored),
