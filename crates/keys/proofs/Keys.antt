@@ -222,7 +222,9 @@ module _ (a b r s : ℕ) (order : r ≤ s) where
   second-alike =
       in-order a b
       (λ ab low high. rw (low, high) (in-order b r (λ br first last. rw (first, last) (second-abr ab br)) (λ rb first last. rw (first, last))))
-      (λ ba low high. rw (low, high) (in-order b r (λ br first last. rw (first, last) (second-bar ba br)) (λ rb first last. rw (first, last) (second-rba rb ba))))
+      (λ ba low high.
+      rw (low, high)
+      (in-order b r (λ br first last. rw (first, last) (second-bar ba br)) (λ rb first last. rw (first, last) (second-rba rb ba))))
 
   third-abr : a ≤ b → b ≤ r → min (max a (min r s)) (max b s) ≡ max (max a r) (min b s)
   third-abr ab br = let left : min r s ≡ r = omega arith in let right : max b s ≡ s = omega arith in rw (left, right) (omega arith)

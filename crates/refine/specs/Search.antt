@@ -27,7 +27,8 @@ foundIn keys numbers m k = cond (isOld keys m k) (At (numberBeside keys numbers 
 abbrev pub newFrom : List ℕ → ℕ → ℕ → ℕ
 newFrom keys m i = count i (λ (h : ℕ). not (isOld keys m (getD keys (m + h) 0)))
 
--- The first m keys have their numbers, and `first` is the next: an old key keeps its number, and a new one gets `first` and one more for each new key before it.
+-- The number of key m + i, where the first m keys have theirs and `first` is the next: that beside the first equal key, if one of the m is equal, and
+-- otherwise `first` plus how many of the keys from m up to it are new.
 abbrev pub numberOf : List ℕ → List ℕ → ℕ → ℕ → ℕ → ℕ
 numberOf keys numbers m first i =
     let k = getD keys (m + i) 0 in cond (isOld keys m k) (numberBeside keys numbers k) (first + newFrom keys m i)

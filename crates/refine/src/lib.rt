@@ -115,7 +115,8 @@ fn write_children(
     cell: usize,
 )
     requires { ⌜ length (now part) ≡ 64 ⌝ }
-    requires { ⌜ (8 * cell + 8 ≤ length (now cells)) × (12 * cell + 12 ≤ length (now edges)) × (6 * cell + 6 ≤ length (now faces)) × (cell < length (now centers)) ⌝ }
+    requires { ⌜ (8 * cell + 8 ≤ length (now cells)) × (12 * cell + 12 ≤ length (now edges)) × (6 * cell + 6 ≤ length (now faces)) ⌝ }
+    requires { ⌜ cell < length (now centers) ⌝ }
     ensures { λ _. ⌜ now (part .exit) ≡ childrenOf (now (cells .entry)) (now (edges .entry)) (now (faces .entry)) (now (centers .entry)) cell ⌝ }
 {
     let mut corner = [0u32; 8];

@@ -39,7 +39,8 @@ module _
     pub accepted-near : T (le z t && le (neg z) t) → natAbs Z * B ≤ sizeIn f t * x .whole * B + E
     accepted-near h =
         let apart = size-of-balance Z (x .up) (x .down) balance in
-        test-then-near (plus f z) (minus f z) (sizeIn f t) (x .whole) B (x .up) (x .down) E (natAbs Z) (image .close) apart (near-units f z t (image .held) tol .0 h)
+        let near = near-units f z t (image .held) tol .0 h in
+        test-then-near (plus f z) (minus f z) (sizeIn f t) (x .whole) B (x .up) (x .down) E (natAbs Z) (image .close) apart near
 
     pub near-accepted : 0 < x .whole → natAbs Z * B + E ≤ sizeIn f t * x .whole * B → T (le z t && le (neg z) t)
     near-accepted pos h =

@@ -24,7 +24,9 @@ loop-less c = simp length-set (omega arith)
 loop-again : tie.Need-loop-again Inv-loop μ-loop
 loop-again c =
     let turn = c .before .before in
-    (simp length-set (omega arith), simp length-set (turn .loop .inv .1), agrees-more (turn .loop .row) (turn .loop .k) _ _ _ refl (omega arith) refl (turn .loop .inv .2))
+    let inv = turn .loop .inv in
+    let more = agrees-more (turn .loop .row) (turn .loop .k) _ _ _ refl (omega arith) refl (inv .2) in
+    (simp length-set (omega arith), simp length-set (inv .1), more)
 
 returns : tie.Need-returns Inv-loop μ-loop
 returns c =

@@ -30,10 +30,11 @@ loop-again c =
     let args = start .args in
     let i = turn .loop .i in
     let inv = turn .loop .inv in
-    let room : args .width * args .cell + i < length (args .numbers .now) = omega arith in
+    let m = args .width * args .cell in
+    let room : m + i < length (args .numbers .now) = omega arith in
     ⊎-elim
     (λ w.
-    let step = keeps (args .keys .now) (args .numbers .now) (args .width * args .cell) (args .first) _ i room (inv .3) _ (rw (w .1 .given .1) at (found .ensures)) in (
+    let step = keeps (args .keys .now) (args .numbers .now) m (args .first) _ i room (inv .3) _ (rw (w .1 .given .1) at (found .ensures)) in (
       omega arith,
       rw (w .3) (simp length-set (inv .1)),
       omega (arith, w .4),
@@ -41,7 +42,7 @@ loop-again c =
       omega (arith, w .4, step .1, inv .4),
     ))
     (λ w.
-    let step = gets (args .keys .now) (args .numbers .now) (args .width * args .cell) (args .first) _ i room (inv .3) _ (inv .4)
+    let step = gets (args .keys .now) (args .numbers .now) m (args .first) _ i room (inv .3) _ (inv .4)
     (rw (w .1 .given .1) at (found .ensures)) in (
       omega arith,
       rw (w .2) (simp length-set (inv .1)),

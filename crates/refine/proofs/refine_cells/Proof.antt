@@ -1,7 +1,7 @@
--- `refine::refine_cells` meets its contract: the lists hold the numbers of all cells, and so the children written from them are the numbering's. Assumes nothing.
+-- `refine::refine_cells` meets its contract: the lists hold the numbers of all cells, and so what is written from them is the numbering's. Assumes nothing.
+use Prim.Native.Nat.{ℕ}
 use mathlib.Core.Path.{ap, _∙_}
 use mathlib.Core.List.{List}
-use Prim.Native.Nat.{ℕ}
 use borrow.Author.Needs.{needs}
 use Rattle.answer.specs.Answer.{answered, left}
 use Rattle.numbering.specs.Refinement.{cellCount}
