@@ -18,8 +18,8 @@ use Rattle.refine.proofs.number_cells.Tie as tie
 
 abbrev Inv-loop : tie.InvT-loop
 Inv-loop n cells edges₀ faces₀ centers₀ edge-keys face-keys free₀ count cell₀ edges faces centers free cell =
-    (cell ≤ count) × (length edges ≡ 1536) × (length faces ≡ 768) × (length centers ≡ 128) × (free ≤ n + 19 * cell)
-    × Standing n cells edges faces centers cell × (free ≡ nextAfter n (thingsTo cells cell))
+    (cell ≤ count) × (length edges ≡ 1536) × (length faces ≡ 768) × (length centers ≡ 128)
+    × Standing n cells edges faces centers cell × (free ≡ nextAfter n (thingsTo cells cell)) × (free ≤ n + 19 * cell)
 
 abbrev μ-loop : tie.MeasureT-loop
 μ-loop n cells edges₀ faces₀ centers₀ edge-keys face-keys free₀ count cell₀ edges faces centers free cell = count - cell
@@ -28,7 +28,7 @@ loop-holds : tie.Need-loop-holds Inv-loop μ-loop
 unfolding chain meet
 loop-holds c =
     let pre = c .before .before .before .before .before .before .pre .1 in
-    (search needs, pre .0, pre .1, pre .2, search needs, stands-first _ _ _ _ _, sym (add-zero _))
+    (search needs, pre .0, pre .1, pre .2, stands-first _ _ _ _ _, sym (add-zero _), search needs)
 
 loop-again : tie.Need-loop-again Inv-loop μ-loop
 loop-again c =
@@ -46,19 +46,19 @@ loop-again c =
     let all : min (cellCount cells) 128 ≡ cellCount cells = omega (arith, start .pre .0 .1) in
     let edge-keyed = keys-agree _ 1536 _ (12 * cellCount cells) (edgeKey cells) (ap (λ (m : ℕ). 12 * m) all) (keys .before .edge-keys .ensures) in
     let face-keyed = keys-agree _ 768 _ (6 * cellCount cells) (faceKey cells) (ap (λ (m : ℕ). 6 * m) all) (keys .face-keys .ensures) in
-    let edged = by-edges n few cells sound cell (omega arith) (turn .loop .edges) (turn .loop .faces) (turn .loop .centers) (turn .loop .free) (inv .5) (inv .6)
+    let edged = by-edges n few cells sound cell (omega arith) (turn .loop .edges) (turn .loop .faces) (turn .loop .centers) (turn .loop .free) (inv .4) (inv .5)
     _ _ _ edge-keyed (omega arith) (omega arith) (first .number .ensures .0) (first .number .ensures .1 .0) in
-    let faced = by-faces n few cells sound cell (omega arith) (turn .loop .edges) (turn .loop .faces) (turn .loop .centers) (turn .loop .free) (inv .5) (inv .6)
+    let faced = by-faces n few cells sound cell (omega arith) (turn .loop .edges) (turn .loop .faces) (turn .loop .centers) (turn .loop .free) (inv .4) (inv .5)
     _ _ _ _ _ face-keyed (omega arith) (omega arith) edged (second .number2 .ensures .0) (second .number2 .ensures .1 .0) in
-    let more = one-more n few cells sound cell (omega arith) (turn .loop .edges) (turn .loop .faces) (turn .loop .centers) (turn .loop .free) (inv .5) (inv .6)
+    let more = one-more n few cells sound cell (omega arith) (turn .loop .edges) (turn .loop .faces) (turn .loop .centers) (turn .loop .free) (inv .4) (inv .5)
     _ _ _ _ (omega arith) edged faced in (
       omega arith,
       second .before .before .before .before .edges .given ∙ inv .1,
       c .before .faces .given ∙ inv .2,
       simp length-set (inv .3),
-      omega (arith, first .number .ensures .1 .1, second .number2 .ensures .1 .1),
       record { ofEdges = more .0 .ofEdges; ofFaces = more .0 .ofFaces; ofCentres = more .0 .ofCentres },
       more .1,
+      omega (arith, first .number .ensures .1 .1, second .number2 .ensures .1 .1),
     )
 
 returns : tie.Need-returns Inv-loop μ-loop
@@ -67,7 +67,7 @@ returns c =
     let inv = c .before .loop .inv in
     let cells = c .before .before .before .before .before .before .before .before .args .cells .now in
     let done : c .before .loop .cell ≡ cellCount cells = omega arith in
-    (rw done at (inv .6), rw done at (inv .5))
+    (rw done at (inv .5), rw done at (inv .4))
 
 pub number-cells-spec : {M : Type 1} → statement M
 number-cells-spec =
