@@ -1,5 +1,5 @@
 -- `refine::number_cells` meets its contract: before each cell the lists hold the numbers of the cells passed. Assumes nothing.
-use Prim.Native.Nat.{ℕ, _+_, _*_, _-_, _≤_, min}
+use Prim.Native.Nat.{ℕ, _+_, _*_, _-_, _≤_, _<_, min}
 use native.Mathlib.Omega.{arith}
 use mathlib.Core.Path.{_≡_, refl, sym, ap, _∙_}
 use native.Mathlib.Nat.{add-zero}
@@ -46,11 +46,12 @@ loop-again c =
     let all : min (cellCount cells) 128 ≡ cellCount cells = omega (arith, start .pre .0 .1) in
     let edge-keyed = keys-agree _ 1536 _ (12 * cellCount cells) (edgeKey cells) (ap (λ (m : ℕ). 12 * m) all) (keys .before .edge-keys .ensures) in
     let face-keyed = keys-agree _ 768 _ (6 * cellCount cells) (faceKey cells) (ap (λ (m : ℕ). 6 * m) all) (keys .face-keys .ensures) in
-    let edged = by-edges n few cells sound cell (omega arith) (turn .loop .edges) (turn .loop .faces) (turn .loop .centers) (turn .loop .free) (inv .4) (inv .5)
+    let below : cell < cellCount cells = omega arith in
+    let edged = by-edges n few cells sound cell below (turn .loop .edges) (turn .loop .faces) (turn .loop .centers) (turn .loop .free) (inv .4) (inv .5)
     _ _ _ edge-keyed (omega arith) (omega arith) (first .number .ensures .0) (first .number .ensures .1 .0) in
-    let faced = by-faces n few cells sound cell (omega arith) (turn .loop .edges) (turn .loop .faces) (turn .loop .centers) (turn .loop .free) (inv .4) (inv .5)
+    let faced = by-faces n few cells sound cell below (turn .loop .edges) (turn .loop .faces) (turn .loop .centers) (turn .loop .free) (inv .4) (inv .5)
     _ _ _ _ _ face-keyed (omega arith) (omega arith) edged (second .number2 .ensures .0) (second .number2 .ensures .1 .0) in
-    let more = one-more n few cells sound cell (omega arith) (turn .loop .edges) (turn .loop .faces) (turn .loop .centers) (turn .loop .free) (inv .4) (inv .5)
+    let more = one-more n few cells sound cell below (turn .loop .edges) (turn .loop .faces) (turn .loop .centers) (turn .loop .free) (inv .4) (inv .5)
     _ _ _ _ (omega arith) edged faced in (
       omega arith,
       second .before .before .before .before .edges .given ∙ inv .1,
@@ -78,17 +79,17 @@ number-cells-spec =
     (λ c κs. search needs)
     (λ c κs. search needs)
     loop-holds
-    (λ c. search needs)
+    (λ c. omega arith)
     (λ c κs. search needs)
-    (λ c. search needs)
+    (λ c. omega arith)
     (λ c κs. search needs)
-    (λ c. search needs)
-    (λ c. search needs)
-    (λ c. search needs)
-    (λ c. search needs)
-    (λ c. search needs)
+    (λ c. omega arith)
+    (λ c. omega arith)
+    (λ c. omega arith)
+    (λ c. omega arith)
+    (λ c. omega arith)
     loop-again
-    (λ c. search needs)
-    (λ c. search needs)
-    (λ c. search needs)
+    (λ c. omega arith)
+    (λ c. omega arith)
+    (λ c. omega arith)
     returns)
