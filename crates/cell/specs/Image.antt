@@ -36,6 +36,6 @@ jacobian n p slopes = grid 3 3 (jacobianOn n p slopes)
 abbrev pub rowByRow : List Float → List Float → List Float → List Float
 rowByRow x y z = grid 3 3 (λ (i j : ℕ). getD (x ∷ y ∷ z ∷ []) i [] ! j)
 
--- three rows of three floats with row i stored, where there is one
+-- three rows of three floats with x stored for row i, where there is one: float j of it at 3 i + j
 abbrev pub withRow : List Float → ℕ → List Float → List Float
-withRow m i x = cond (ltb i 3) (set (set (set m (3 * i) (x ! 0)) (3 * i + 1) (x ! 1)) (3 * i + 2) (x ! 2)) m
+withRow m i x = cond (ltb i 3) (foldTo (λ (l : List Float) (j : ℕ). set l (3 * i + j) (x ! j)) m 3 (λ (j : ℕ). j)) m

@@ -19,8 +19,8 @@ abbrev pub one4th : Float
 one4th = half ⊗ half
 
 -- triangle point j at the height of line point i: the line goes from -1 to 1, the prism from 0 to 1
-abbrev pub placeOf : List Float → List Float → ℕ → ℕ → List Float
-placeOf line triangle i j = triangle ! (3 * j) ∷ triangle ! (3 * j + 1) ∷ (place line i ⊕ f1) ⊗ half ∷ []
+abbrev pub pointAt : List Float → List Float → ℕ → ℕ → List Float
+pointAt line triangle i j = triangle ! (3 * j) ∷ triangle ! (3 * j + 1) ∷ (place line i ⊕ f1) ⊗ half ∷ []
 
 -- the line's weight times the triangle's
 abbrev pub weightOf : List Float → List Float → ℕ → ℕ → Float
@@ -28,7 +28,7 @@ weightOf line triangle i j = weight line i ⊗ triangle ! (3 * j + 2)
 
 -- what two points add: the determinant of the Jacobian, handed over row by row, times their weight
 unfoldable pub termAt : List Float → List Float → List Float → ℕ → ℕ → Float
-termAt p line triangle i j = det (jacobianAt p (placeOf line triangle i j)) ⊗ weightOf line triangle i j
+termAt p line triangle i j = det (jacobianAt p (pointAt line triangle i j)) ⊗ weightOf line triangle i j
 
 -- "The prism's line points are outer, its triangle points inner": m line points and n triangle points make m * n terms, added up from
 -- plus zero, and term t is that of line point t / n and triangle point t % n
