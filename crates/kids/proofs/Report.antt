@@ -10,8 +10,8 @@ use Rattle.hxm.specs.Format.{nodeCount, meshAt, meshOf}
 use Rattle.hxm.proofs.Ladder.{Counted, passed-accepted}
 use Rattle.hxm.proofs.Long.{enough-to-tell}
 use Rattle.numbering.specs.Refinement.{cellCount, childNumbers}
+use Rattle.numbering.proofs.Steps.{chain-length}
 use Rattle.refine.specs.Refine.{refined, allChildren, childrenIn}
-use Rattle.refine.proofs.Output.{chain-length}
 use Rattle.kids.specs.Text.{decimal, behind, joined, field, line, table}
 use Rattle.kids.specs.Kids.{headLine, report, refusedLine, shown, kidsOf, printed, EnoughToPrint}
 

@@ -1,6 +1,6 @@
 -- Cell by cell: what an earlier cell has keeps its number, and what is new gets the next. Assumes nothing.
-use Prim.Native.Nat.{ℕ, zero, suc, _+_, _<_}
-use native.Mathlib.Nat.{eq-or-lt-of-le, le-of-suc-le-suc, not-suc-le-zero}
+use Prim.Native.Nat.{ℕ, zero, suc, _+_, _*_, _<_}
+use native.Mathlib.Nat.{eq-or-lt-of-le, le-of-suc-le-suc, not-suc-le-zero, mul-suc}
 use native.Mathlib.Numerals.{add-one}
 use native.Mathlib.Omega.{arith}
 use mathlib.Core.Path.{_≡_, refl, sym, ap, _∙_}
@@ -27,6 +27,11 @@ chain-past c (suc n) f h =
     let more = chain-past c n f less in
     (more .0 ++ f n, rw (more .1, append-assoc, append-assoc)))
     (eq-or-lt-of-le (le-of-suc-le-suc h))
+
+pub chain-length : {A : Type 0} (w : ℕ) (f : ℕ → List A) → ((d : ℕ) → length (f d) ≡ w) → (c : ℕ) → length (chain c f) ≡ w * c
+unfolding chain
+chain-length w f h zero = let none : 0 ≡ w * 0 = omega arith in none
+chain-length w f h (suc c) = rw (length-append (chain c f) (f c), h c, chain-length w f h c, mul-suc)
 
 either : (a b : Bool) {A : Type 0} → (a ≡ true → A) → (b ≡ true → A) → (a || b) ≡ true → A
 either true b f g h = f refl

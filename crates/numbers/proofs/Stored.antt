@@ -3,9 +3,9 @@ use Prim.Native.Nat.{ℕ, zero, suc, _+_, _≤_, _<_}
 use native.Mathlib.Numerals.{add-one}
 use native.Mathlib.Omega.{arith}
 use mathlib.Core.Path.{_≡_, refl, sym, _∙_, ap, ap₂}
-use mathlib.Core.List.{List, [], _∷_, _++_, append-assoc}
+use mathlib.Core.List.{List, [], _∷_, _++_, append-assoc, append-nil}
 use lib.ListN.{length, getD, take, drop, set, length-append, length-take, length-set}
-use lib.Seq.{drop-cons, set-at, append-snoc}
+use lib.Seq.{drop-cons, drop-length, set-at, append-snoc}
 use Rattle.numbers.specs.Rule.{tabulate}
 
 module _ {ℓ} {A : Type ℓ} where
@@ -57,3 +57,8 @@ module _ {ℓ} {A : Type ℓ} {f : ℕ → A} {n : ℕ} {old : List A} where
 
   pub stores-all : {out : List A} {i : ℕ} → Stores f n old out i → n ≤ i → out ≡ tabulate n f ++ drop n old
   stores-all {out} {i} s last = let all : i ≡ n = omega (arith, s .within) in rw all at (s .stored)
+
+-- and where it stores over the whole list
+pub stores-whole {ℓ} : {A : Type ℓ} {f : ℕ → A} {old out : List A} {i : ℕ} → Stores f (length old) old out i → length old ≤ i → out ≡ tabulate (length old) f
+stores-whole {f = f} {old = old} s last =
+    stores-all s last ∙ ap (λ (l : List _). tabulate (length old) f ++ l) (drop-length old) ∙ append-nil (tabulate (length old) f)

@@ -12,8 +12,9 @@ use Rattle.hex_children.specs.Children.{children}
 use Rattle.numbering.specs.Refinement.{Thing, cellCount, edgeOf, faceOf, edgesOf, facesOf, chain, thingsTo, number, childNumbers}
 use Rattle.numbering.proofs.Steps.{nextAfter}
 use Rattle.keys.specs.Keys.{edgeKey, faceKey}
-use Rattle.refine.specs.Search.{newFrom, numbered, row, childrenOf, Agrees, edgeNumber, faceNumber, centreNumber, Standing}
-use Rattle.refine.proofs.Output.{same-children}
+use Rattle.mesh_children.specs.MeshChildren.{row, childrenOf, childrenBy}
+use Rattle.mesh_children.proofs.Output.{Fit, all-whole, same-children}
+use Rattle.refine.specs.Search.{newFrom, numbered, Agrees, edgeNumber, faceNumber, centreNumber, Standing}
 use Rattle.refine.proofs.Rules.{edge-rule, face-rule, centre-rule}
 use Rattle.refine.proofs.Search.{agrees-more, goes-on}
 
@@ -26,17 +27,17 @@ stands-first n cells edges faces centers =
     }
 
 -- with the edges of cell c, and with its faces, and the next number behind them
-pub record Edged (n : ℕ) (cells : List ℕ) (c : ℕ) (edges : List ℕ) (next : ℕ) : Type 0 where
+record Edged (n : ℕ) (cells : List ℕ) (c : ℕ) (edges : List ℕ) (next : ℕ) : Type 0 where
   pub agree : Agrees edges (12 * c + 12) (edgeNumber n cells)
   pub next-is : next ≡ nextAfter n (thingsTo cells c ++ edgesOf cells c)
 
-pub record Faced (n : ℕ) (cells : List ℕ) (c : ℕ) (faces : List ℕ) (next : ℕ) : Type 0 where
+record Faced (n : ℕ) (cells : List ℕ) (c : ℕ) (faces : List ℕ) (next : ℕ) : Type 0 where
   pub agree : Agrees faces (6 * c + 6) (faceNumber n cells)
   pub next-is : next ≡ nextAfter n ((thingsTo cells c ++ edgesOf cells c) ++ facesOf cells c)
 
 module _ (n : ℕ) (few : n ≤ 1024) (cells : List ℕ) (sound : (d : ℕ) → d < cellCount cells → Sound n 8 (node 8 cells d)) (c : ℕ) (below : c < cellCount cells)
     (edges faces centers : List ℕ) (next : ℕ) (held : Standing n cells edges faces centers c) (of-next : next ≡ nextAfter n (thingsTo cells c)) where
-  pub by-edges : (keys edges′ : List ℕ) (middle : ℕ) → Agrees keys (12 * cellCount cells) (edgeKey cells)
+  by-edges : (keys edges′ : List ℕ) (middle : ℕ) → Agrees keys (12 * cellCount cells) (edgeKey cells)
       → 12 * c + 12 ≤ length keys → 12 * c + 12 ≤ length edges
       → edges′ ≡ numbered keys edges (12 * c) next 12 → middle ≡ next + newFrom keys (12 * c) 12 → Edged n cells c edges′ middle
   by-edges keys edges′ middle keyed inside room is after =
@@ -46,7 +47,7 @@ module _ (n : ℕ) (few : n ≤ 1024) (cells : List ℕ) (sound : (d : ℕ) → 
       let done = goes-on keys edges (12 * c) 12 next (edgeNumber n cells) _ rule inside (held .ofEdges) first edges′ middle room is after in
       record { agree = done .0; next-is = done .1 ∙ ap (λ (l : List Thing). nextAfter n (l ++ edgesOf cells c)) nil }
 
-  pub by-faces : (keys edges′ faces′ : List ℕ) (middle center : ℕ) → Agrees keys (6 * cellCount cells) (faceKey cells)
+  by-faces : (keys edges′ faces′ : List ℕ) (middle center : ℕ) → Agrees keys (6 * cellCount cells) (faceKey cells)
       → 6 * c + 6 ≤ length keys → 6 * c + 6 ≤ length faces
       → Edged n cells c edges′ middle
       → faces′ ≡ numbered keys faces (6 * c) middle 6 → center ≡ middle + newFrom keys (6 * c) 6 → Faced n cells c faces′ center
@@ -56,7 +57,7 @@ module _ (n : ℕ) (few : n ≤ 1024) (cells : List ℕ) (sound : (d : ℕ) → 
       let done = goes-on keys faces (6 * c) 6 middle (faceNumber n cells) _ rule inside (held .ofFaces) first faces′ center room is after in
       record { agree = done .0; next-is = done .1 }
 
-  pub one-more : (edges′ faces′ : List ℕ) (middle center : ℕ) → c < length centers → Edged n cells c edges′ middle → Faced n cells c faces′ center
+  one-more : (edges′ faces′ : List ℕ) (middle center : ℕ) → c < length centers → Edged n cells c edges′ middle → Faced n cells c faces′ center
       → Standing n cells edges′ faces′ (set centers c center) (c + 1) × (center + 1 ≡ nextAfter n (thingsTo cells (c + 1)))
   one-more edges′ faces′ middle center room edged faced =
       let middle-of = centre-rule n few cells sound c below in (
@@ -67,6 +68,18 @@ module _ (n : ℕ) (few : n ≤ 1024) (cells : List ℕ) (sound : (d : ℕ) → 
         },
         ap (λ (k : ℕ). k + 1) (faced .next-is) ∙ sym (middle-of .1),
       )
+
+  -- one cell more
+  pub cell-more : (edge-keys face-keys edges′ faces′ : List ℕ) (middle center : ℕ)
+      → Agrees edge-keys (12 * cellCount cells) (edgeKey cells) → Agrees face-keys (6 * cellCount cells) (faceKey cells)
+      → 12 * c + 12 ≤ length edge-keys → 6 * c + 6 ≤ length face-keys → 12 * c + 12 ≤ length edges → 6 * c + 6 ≤ length faces → c < length centers
+      → edges′ ≡ numbered edge-keys edges (12 * c) next 12 → middle ≡ next + newFrom edge-keys (12 * c) 12
+      → faces′ ≡ numbered face-keys faces (6 * c) middle 6 → center ≡ middle + newFrom face-keys (6 * c) 6
+      → Standing n cells edges′ faces′ (set centers c center) (c + 1) × (center + 1 ≡ nextAfter n (thingsTo cells (c + 1)))
+  cell-more edge-keys face-keys edges′ faces′ middle center edge-keyed face-keyed edge-inside face-inside edge-room face-room room edges-are middle-is faces-are center-is =
+      let edged = by-edges edge-keys edges′ middle edge-keyed edge-inside edge-room edges-are middle-is in
+      let faced = by-faces face-keys edges′ faces′ middle center face-keyed face-inside face-room edged faces-are center-is in
+      one-more edges′ faces′ middle center room edged faced
 
 -- the numbers of one cell in a list that agrees with a rule up to m cells
 row-is : (w c m : ℕ) (numbers : List ℕ) (f : ℕ → ℕ → ℕ) → c < m → Agrees numbers (w * m) (λ (j : ℕ). f (j / w) (j % w)) → row w numbers c ≡ tabulate w (f c)
@@ -89,7 +102,9 @@ unfolding chain
 chain-alike zero f g h = refl
 chain-alike (suc m) f g h = rw (chain-alike m f g (λ c below. h c (omega arith)), h m (omega arith))
 
-pub all-children : (n : ℕ) (cells edges faces centers : List ℕ) (m : ℕ) → Standing n cells edges faces centers m
-    → chain m (childrenOf cells edges faces centers) ≡ chain m (childNumbers n cells)
-all-children n cells edges faces centers m held =
-    chain-alike m (childrenOf cells edges faces centers) (childNumbers n cells) (λ c below. cell-children n cells edges faces centers m c held below)
+pub all-children : (n : ℕ) (cells edges faces centers : List ℕ) (room : ℕ) → Standing n cells edges faces centers (cellCount cells)
+    → Fit cells edges faces centers room (cellCount cells) → childrenBy cells edges faces centers room ≡ chain (cellCount cells) (childNumbers n cells)
+all-children n cells edges faces centers room held fit =
+    let m = cellCount cells in
+    ap (λ (k : ℕ). chain k (childrenOf cells edges faces centers)) (all-whole cells edges faces centers room fit)
+    ∙ chain-alike m (childrenOf cells edges faces centers) (childNumbers n cells) (λ c below. cell-children n cells edges faces centers m c held below)

@@ -1,5 +1,4 @@
 pub mod Cell
-pub mod Output
 pub mod Places
 pub mod Rules
 pub mod Search

@@ -9,7 +9,7 @@ use mathlib.Core.List.{List, _++_}
 use borrow.Author.Tests.{eqb-true, eqb-false, ltb-true, ltb-false}
 use lib.Dec.{eqb, ltb}
 use lib.ListN.{length, getD, take, drop, set, length-take, take-append-drop, List·getD-append}
-use lib.Seq.{getD-set-same, getD-set-other, getD-take, getD-append-add, ext-getD}
+use lib.Seq.{getD-set-same, getD-set-other, getD-take, getD-append-add}
 use Rattle.numbers.specs.Rule.{tabulate, placeOf}
 use Rattle.numbers.proofs.Cases.{cases}
 use Rattle.numbers.proofs.Stored.{length-tabulate, stored-behind}
@@ -34,15 +34,6 @@ keys-agree keys room m n keyAt all e j below =
     let within : j < m = omega arith in
     let inside : j < length (tabulate m keyAt) = rw (length-tabulate m keyAt) within in
     ap (λ (l : List ℕ). getD l j 0) e ∙ List·getD-append (tabulate m keyAt) _ 0 j inside ∙ tabulate-at m keyAt 0 j within
-
--- numbers that agree with a rule are the list by that rule
-pub agrees-all : (numbers : List ℕ) (m : ℕ) (value : ℕ → ℕ) → length numbers ≡ m → Agrees numbers m value → numbers ≡ tabulate m value
-agrees-all numbers m value long h =
-    ext-getD 0 numbers (tabulate m value) (long ∙ sym (length-tabulate m value))
-    (λ j below. let within = rw long at below in h j within ∙ sym (tabulate-at m value 0 j within))
-
-pub copied : (l : List ℕ) (m : ℕ) → length l ≡ m → tabulate m (λ (k : ℕ). getD l (0 + k) 0) ≡ l
-copied l m long = sym (agrees-all l m (λ (k : ℕ). getD l (0 + k) 0) long (λ j below. ap (λ (k : ℕ). getD l k 0) (sym (zero-add j))))
 
 -- ---- one key more
 module _ (keys old : List ℕ) (m first : ℕ) where

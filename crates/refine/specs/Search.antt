@@ -6,8 +6,7 @@ use mathlib.Core.List.{List, _++_}
 use lib.Dec.{eqb, ltb}
 use lib.ListN.{getD, take, drop}
 use Rattle.numbers.specs.Rule.{tabulate, count, placeOf}
-use Rattle.hex_children.specs.Children.{children}
-use Rattle.numbering.specs.Refinement.{centre, cellCount, edgeOf, faceOf, chain, number}
+use Rattle.numbering.specs.Refinement.{centre, edgeOf, faceOf, number}
 use Rattle.refine.specs.declared.Found.{Found}
 use Rattle.refine.specs.declared.Found.the-variants.{At, Nothing}
 
@@ -36,17 +35,6 @@ numberOf keys numbers m first i =
 -- the list of numbers with those of the w keys from m on
 unfoldable pub numbered : List ℕ → List ℕ → ℕ → ℕ → ℕ → List ℕ
 numbered keys numbers m first w = take m numbers ++ (tabulate w (numberOf keys numbers m first) ++ drop (m + w) numbers)
-
--- the w numbers of a cell in a list of w a cell
-abbrev pub row : ℕ → List ℕ → ℕ → List ℕ
-row w l c = tabulate w (λ (k : ℕ). getD l (w * c + k) 0)
-
--- the children of a cell whose nodes, and the numbers of whose edges, faces and centre, stand in such lists
-unfoldable pub childrenOf : List ℕ → List ℕ → List ℕ → List ℕ → ℕ → List ℕ
-childrenOf cells edges faces centers c = children (row 8 cells c) (row 12 edges c) (row 6 faces c) (getD centers c 0)
-
-abbrev pub childrenBy : List ℕ → List ℕ → List ℕ → List ℕ → List ℕ
-childrenBy cells edges faces centers = chain (cellCount cells) (childrenOf cells edges faces centers)
 
 -- the first m numbers of a list are those of a rule
 abbrev pub Agrees : List ℕ → ℕ → (ℕ → ℕ) → Type 0

@@ -2,13 +2,12 @@
 // An edge or a face is kept as its key, so that one search serves both and compares one number.
 ghost use mathlib.Core.Path.{_≡_};
 ghost use Prim.Native.Nat.{_+_, _*_, _^_, _<_, _≤_};
-ghost use lib.ListN.{length, getD};
-ghost use Rattle.numbers.specs.Rule.{tabulate};
+ghost use lib.ListN.{length};
 ghost use Rattle.answer.specs.Answer.{answered, left};
 ghost use Rattle.faults.specs.Faults.{firstFault};
 ghost use Rattle.numbering.specs.Refinement.{cellCount, next};
 ghost use Rattle.refine.specs.Refine.{refined, allChildren, childrenIn, told};
-ghost use Rattle.refine.specs.Search.{foundIn, newFrom, numbered, childrenOf, childrenBy, Standing};
+ghost use Rattle.refine.specs.Search.{foundIn, newFrom, numbered, Standing};
 
 // The next free number, or a refusal's number.
 pub enum Refined {
@@ -65,18 +64,6 @@ fn number(keys: &[u64], numbers: &mut [u32], width: usize, cell: usize, first: u
     next
 }
 
-// Copies what stands in a list from `from` on, as much as there is room for.
-fn copy_row(list: &[u32], from: usize, row: &mut [u32])
-    requires { ⌜ from + length (now row) ≤ length (now list) ⌝ }
-    ensures { λ _. ⌜ now (row .exit) ≡ tabulate (length (now (row .entry))) (λ k. getD (now (list .entry)) (from + k) 0) ⌝ }
-{
-    let mut k: usize = 0;
-    while k < row.len() {
-        row[k] = list[from + k];
-        k += 1;
-    }
-}
-
 // Numbers the edges, the faces and the centre of each cell, cell after cell. The answer is the next free number.
 fn number_cells(
     n: u32,
@@ -105,47 +92,6 @@ fn number_cells(
     free
 }
 
-// Writes one cell's children into the part of the output that is theirs.
-fn write_children(
-    part: &mut [u32],
-    cells: &[u32],
-    edges: &[u32],
-    faces: &[u32],
-    centers: &[u32],
-    cell: usize,
-)
-    requires { ⌜ length (now part) ≡ 64 ⌝ }
-    requires { ⌜ (8 * cell + 8 ≤ length (now cells)) × (12 * cell + 12 ≤ length (now edges)) × (6 * cell + 6 ≤ length (now faces)) ⌝ }
-    requires { ⌜ cell < length (now centers) ⌝ }
-    ensures { λ _. ⌜ now (part .exit) ≡ childrenOf (now (cells .entry)) (now (edges .entry)) (now (faces .entry)) (now (centers .entry)) cell ⌝ }
-{
-    let mut corner = [0u32; 8];
-    let mut edge = [0u32; 12];
-    let mut quad = [0u32; 6];
-    copy_row(cells, 8 * cell, &mut corner);
-    copy_row(edges, 12 * cell, &mut edge);
-    copy_row(faces, 6 * cell, &mut quad);
-    let numbers = hex_children::subdivide(corner, edge, quad, centers[cell]);
-    copy_row(&numbers, 0, part);
-}
-
-// Writes the children of each cell into its part of the output.
-fn write_cells(cells: &[u32], edges: &[u32], faces: &[u32], centers: &[u32], out: &mut [u32])
-    requires { ⌜ (length (now cells) ≤ 1024) × (64 * cellCount (now cells) ≤ length (now out)) ⌝ }
-    requires { ⌜ (length (now edges) ≡ 1536) × (length (now faces) ≡ 768) × (length (now centers) ≡ 128) ⌝ }
-    ensures { λ _. ⌜ now (out .exit) ≡
-        left (answered (childrenBy (now (cells .entry)) (now (edges .entry)) (now (faces .entry)) (now (centers .entry)))) (now (out .entry)) ⌝ }
-{
-    let count = cells.len() / 8;
-    let mut place: usize = 0;
-    while place < count {
-        let start = 64 * place;
-        let end = start + 64;
-        write_children(&mut out[start..end], cells, edges, faces, centers, place);
-        place += 1;
-    }
-}
-
 // Numbers all cells, and then writes their children. The answer is the next free number.
 fn refine_cells(n: u32, cells: &[u32], out: &mut [u32]) -> u32
     requires { ⌜ (n ≤ 1024) × (length (now cells) ≤ 1024) × (64 * cellCount (now cells) ≤ length (now out)) × (firstFault n 8 (now cells) ≡ 0) ⌝ }
@@ -156,7 +102,7 @@ fn refine_cells(n: u32, cells: &[u32], out: &mut [u32]) -> u32
     let mut faces = [0u32; 768];
     let mut centers = [0u32; 128];
     let free = number_cells(n, cells, &mut edges, &mut faces, &mut centers);
-    write_cells(cells, &edges, &faces, &centers, out);
+    mesh_children::write_cells(cells, &edges, &faces, &centers, out);
     free
 }
 

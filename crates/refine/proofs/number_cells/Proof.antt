@@ -11,7 +11,7 @@ use Rattle.numbering.specs.Refinement.{cellCount, chain, thingsTo, given}
 use Rattle.numbering.proofs.Steps.{nextAfter}
 use Rattle.keys.specs.Keys.{edgeKey, faceKey}
 use Rattle.refine.specs.Search.{Standing}
-use Rattle.refine.proofs.Cell.{stands-first, by-edges, by-faces, one-more}
+use Rattle.refine.proofs.Cell.{stands-first, cell-more}
 use Rattle.refine.proofs.Search.{keys-agree}
 use Rattle.refine.proofs.number_cells.Statement.{statement}
 use Rattle.refine.proofs.number_cells.Tie as tie
@@ -30,6 +30,16 @@ loop-holds c =
     let pre = c .before .before .before .before .before .before .pre .1 in
     (search needs, pre .0, pre .1, pre .2, stands-first _ _ _ _ _, sym (add-zero _), search needs)
 
+-- the turn, and the start, that the last step of a turn comes after
+abbrev turn-of : tie.After-slice-known5 Inv-loop μ-loop → tie.In-loop Inv-loop μ-loop
+turn-of c = c .before .before .before .before .before .before .before .before .before .before
+
+abbrev start-of : tie.In-loop Inv-loop μ-loop → tie.Start Inv-loop μ-loop
+start-of turn = turn .before .before .before .before .before .before .before .before
+
+few-cells : (turn : tie.In-loop Inv-loop μ-loop) → turn .before .loop .cell < 128
+few-cells turn = omega (arith, turn .loop-test .taken, start-of turn .pre .0 .1)
+
 loop-again : tie.Need-loop-again Inv-loop μ-loop
 loop-again c =
     let second = c .before .before in
@@ -46,13 +56,16 @@ loop-again c =
     let all : min (cellCount cells) 128 ≡ cellCount cells = omega (arith, start .pre .0 .1) in
     let edge-keyed = keys-agree _ 1536 _ (12 * cellCount cells) (edgeKey cells) (ap (λ (m : ℕ). 12 * m) all) (keys .before .edge-keys .ensures) in
     let face-keyed = keys-agree _ 768 _ (6 * cellCount cells) (faceKey cells) (ap (λ (m : ℕ). 6 * m) all) (keys .face-keys .ensures) in
-    let below : cell < cellCount cells = omega arith in
-    let edged = by-edges n few cells sound cell below (turn .loop .edges) (turn .loop .faces) (turn .loop .centers) (turn .loop .free) (inv .4) (inv .5)
-    _ _ _ edge-keyed (omega arith) (omega arith) (first .number .ensures .0) (first .number .ensures .1 .0) in
-    let faced = by-faces n few cells sound cell below (turn .loop .edges) (turn .loop .faces) (turn .loop .centers) (turn .loop .free) (inv .4) (inv .5)
-    _ _ _ _ _ face-keyed (omega arith) (omega arith) edged (second .number2 .ensures .0) (second .number2 .ensures .1 .0) in
-    let more = one-more n few cells sound cell below (turn .loop .edges) (turn .loop .faces) (turn .loop .centers) (turn .loop .free) (inv .4) (inv .5)
-    _ _ _ _ (omega arith) edged faced in (
+    let below : cell < cellCount cells = first .before .before .before .loop-test .taken in
+    let most = start .pre .0 .1 in
+    let edges-long = inv .1 in
+    let faces-long = inv .2 in
+    let centers-long = inv .3 in
+    let edge-keys-long = first .before .before .edge-keys2 .given in
+    let face-keys-long = second .before .before .face-keys2 .given in
+    let more = cell-more n few cells sound cell below (turn .loop .edges) (turn .loop .faces) (turn .loop .centers) (turn .loop .free) (inv .4) (inv .5)
+    _ _ _ _ _ _ edge-keyed face-keyed (omega arith) (omega arith) (omega arith) (omega arith) (omega arith)
+    (first .number .ensures .0) (first .number .ensures .1 .0) (second .number2 .ensures .0) (second .number2 .ensures .1 .0) in (
       omega arith,
       second .before .before .before .before .edges .given ∙ inv .1,
       c .before .faces .given ∙ inv .2,
@@ -76,18 +89,18 @@ number-cells-spec =
     (tie.spec
     Inv-loop
     μ-loop
-    (λ c κs. search needs)
-    (λ c κs. search needs)
+    (λ c κs. omega arith)
+    (λ c κs. omega arith)
     loop-holds
     (λ c. omega arith)
-    (λ c κs. search needs)
+    (λ c κs. omega arith)
     (λ c. omega arith)
-    (λ c κs. search needs)
+    (λ c κs. omega arith)
+    (λ c. omega (arith, few-cells (turn-of c)))
+    (λ c. omega (arith, few-cells (turn-of c), turn-of c .before .loop .inv .3))
     (λ c. omega arith)
-    (λ c. omega arith)
-    (λ c. omega arith)
-    (λ c. omega arith)
-    (λ c. omega arith)
+    (λ c. omega (arith, few-cells (turn-of c)))
+    (λ c. omega (arith, turn-of c .loop-test .taken))
     loop-again
     (λ c. omega arith)
     (λ c. omega arith)

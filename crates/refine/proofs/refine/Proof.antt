@@ -82,10 +82,10 @@ refine-spec =
     returns
     returns-2
     returns-3
-    (λ c. search needs)
+    (λ c. omega arith)
     returns-4
     (λ c κs. search needs)
     returns-5
     (λ c κs. search needs)
-    (λ c. search needs)
+    (λ c. omega arith)
     returns-6)

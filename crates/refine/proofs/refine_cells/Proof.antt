@@ -4,8 +4,8 @@ use mathlib.Core.Path.{ap, _∙_}
 use mathlib.Core.List.{List}
 use native.Mathlib.Omega.{arith}
 use borrow.Author.Needs.{needs}
+use lib.ListN.{length}
 use Rattle.answer.specs.Answer.{answered, left}
-use Rattle.numbering.specs.Refinement.{cellCount}
 use Rattle.refine.proofs.Cell.{all-children}
 use Rattle.refine.proofs.refine_cells.Statement.{statement}
 use Rattle.refine.proofs.refine_cells.Tie as tie
@@ -16,7 +16,8 @@ returns c =
     let numbered = wrote .before .before .before .before .before .before .before .before in
     let args = numbered .before .before .before .before .before .before .args in
     let cells = args .cells .now in
-    let children = all-children (args .n) cells _ _ _ (cellCount cells) (numbered .number-cells .ensures .1) in
+    let children = all-children (args .n) cells _ _ _ (length (args .out .now)) (numbered .number-cells .ensures .1)
+    (omega arith, omega arith, omega arith, omega arith, omega arith) in
     (numbered .number-cells .ensures .0, wrote .write-cells .ensures ∙ ap (λ (l : List ℕ). left (answered l) (args .out .now)) children)
 
 pub refine-cells-spec : {M : Type 1} → statement M

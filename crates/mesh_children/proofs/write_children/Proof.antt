@@ -1,13 +1,12 @@
--- `refine::write_children` meets its contract: the rows copied are the cell's, and the numbers passed are copied out. Assumes nothing.
+-- `mesh_children::write_children` meets its contract: the rows copied are the cell's, and the numbers passed are copied out. Assumes nothing.
 use native.Mathlib.Omega.{arith}
 use borrow.Author.Needs.{needs}
 use mathlib.Core.Path.{ap, _∙_}
 use lib.ListN.{length, getD}
-use Rattle.refine.specs.Search.{row, childrenOf}
-use Rattle.refine.proofs.Output.{same-children}
-use Rattle.refine.proofs.Search.{copied}
-use Rattle.refine.proofs.write_children.Statement.{statement}
-use Rattle.refine.proofs.write_children.Tie as tie
+use Rattle.mesh_children.specs.MeshChildren.{row, childrenOf}
+use Rattle.mesh_children.proofs.Output.{copied, same-children}
+use Rattle.mesh_children.proofs.write_children.Statement.{statement}
+use Rattle.mesh_children.proofs.write_children.Tie as tie
 
 returns : tie.Need-returns
 unfolding childrenOf
@@ -37,19 +36,19 @@ pub write-children-spec : {M : Type 1} → statement M
 write-children-spec =
     tie.close
     (tie.spec
-    (λ c. search needs)
-    (λ c. search needs)
+    (λ c. omega arith)
+    (λ c. omega arith)
     (λ c κs. search needs)
-    (λ c. search needs)
-    (λ c. search needs)
+    (λ c. omega arith)
+    (λ c. omega arith)
     (λ c κs. search needs)
-    (λ c. search needs)
-    (λ c. search needs)
+    (λ c. omega arith)
+    (λ c. omega arith)
     (λ c κs. search needs)
-    (λ c. search needs)
-    (λ c. search needs)
+    (λ c. omega arith)
+    (λ c. omega arith)
     (λ c κs. search needs)
-    (λ c. search needs)
+    (λ c. omega arith)
     (λ c κs. search needs)
-    (λ c. search needs)
+    (λ c. omega arith)
     returns)
