@@ -49,13 +49,7 @@ fn low(a: usize, b: usize) -> usize
 }
 
 // How many whole cells every list has, and the output has room for.
-fn whole_cells(
-    cells: &[u32],
-    edges: &[u32],
-    faces: &[u32],
-    centers: &[u32],
-    room: usize,
-) -> usize
+fn whole_cells(cells: &[u32], edges: &[u32], faces: &[u32], centers: &[u32], room: usize) -> usize
     ensures { λ r. ⌜ r ≡ wholeCells (now (cells .entry)) (now (edges .entry)) (now (faces .entry)) (now (centers .entry)) room ⌝ }
 {
     let numbered = low(low(edges.len() / 12, faces.len() / 6), centers.len());

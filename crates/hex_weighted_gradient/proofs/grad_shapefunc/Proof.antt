@@ -1,5 +1,5 @@
 -- `hex_weighted_gradient::grad_shapefunc` meets its contract: what was written is told corner by corner, and a refusal by its number. Assumes nothing.
-use borrow.Author.Needs.{needs}
+use native.Mathlib.Omega.{arith}
 use Rattle.hex_weighted_gradient.proofs.Told.{given-told, refusal-told}
 use Rattle.hex_weighted_gradient.proofs.grad_shapefunc.Statement.{statement}
 use Rattle.hex_weighted_gradient.proofs.grad_shapefunc.Tie as tie
@@ -36,14 +36,14 @@ pub grad-shapefunc-spec : {M : Type 1} → statement M
 grad-shapefunc-spec =
     tie.close
     (tie.spec
-    (λ c κs. search needs)
+    (λ c κs. omega arith)
     returns
-    (λ c κs. search needs)
-    (λ c κs. search needs)
-    (λ c κs. search needs)
-    (λ c κs. search needs)
-    (λ c κs. search needs)
-    (λ c κs. search needs)
-    (λ c κs. search needs)
-    (λ c κs. search needs)
+    (λ c κs. omega arith)
+    (λ c κs. omega arith)
+    (λ c κs. omega arith)
+    (λ c κs. omega arith)
+    (λ c κs. omega arith)
+    (λ c κs. omega arith)
+    (λ c κs. omega arith)
+    (λ c κs. omega arith)
     returns-2)

@@ -3,7 +3,7 @@ use mathlib.Core.Path.{_≡_, refl}
 use mathlib.Core.Bool.{Bool, true, false, _&&_}
 use lib.Dec.{eqb}
 use lib.ListN.{getD}
-use borrow.Author.Needs.{needs}
+use native.Mathlib.Omega.{arith}
 use Rattle.hxm.proofs.marked.Statement.{statement}
 use Rattle.hxm.proofs.marked.Tie as tie
 
@@ -23,4 +23,4 @@ returns c =
     turned (eqb (getD s 0 0) 72) (eqb (getD s 1 0) 88) (eqb (getD s 2 0) 77)
 
 pub marked-spec : {M : Type 1} → statement M
-marked-spec = tie.close (tie.spec (λ c. search needs) (λ c. search needs) (λ c. search needs) returns)
+marked-spec = tie.close (tie.spec (λ c. omega arith) (λ c. omega arith) (λ c. omega arith) returns)

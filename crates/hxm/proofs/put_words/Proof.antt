@@ -1,7 +1,6 @@
 -- `hxm::put_words` meets its contract: the first i numbers are written, and the rest of the list is as it was. Assumes nothing.
 use Prim.Native.Nat.{ℕ, _+_, _*_, _-_}
 use native.Mathlib.Omega.{arith}
-use borrow.Author.Needs.{needs}
 use Rattle.numbers.specs.Little.{numberAt}
 use Rattle.numbers.proofs.Stored.{Stores, stores-none, stores-more, stores-all}
 use Rattle.hxm.proofs.put_words.Statement.{statement}
@@ -23,13 +22,13 @@ put-words-spec =
     Inv-loop
     μ-loop
     (λ c. stores-none)
-    (λ c. search needs)
-    (λ c. search needs)
-    (λ c κs. search needs)
-    (λ c. search needs)
-    (λ c. search needs)
-    (λ c. search needs)
-    (λ c. search needs)
+    (λ c. omega arith)
+    (λ c. omega arith)
+    (λ c κs. omega arith)
+    (λ c. omega arith)
+    (λ c. omega arith)
+    (λ c. omega arith)
+    (λ c. omega arith)
     loop-again
-    (λ c. search needs)
+    (λ c. omega arith)
     (λ c. stores-all (c .before .loop .inv) (omega arith)))

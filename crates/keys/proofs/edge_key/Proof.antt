@@ -1,5 +1,5 @@
 -- `keys::edge_key` meets its contract: the smaller end is the first digit. Assumes nothing.
-use borrow.Author.Needs.{needs}
+use native.Mathlib.Omega.{arith}
 use Rattle.cell.specs.Edges.{end}
 use Rattle.faults.specs.Faults.{node}
 use Rattle.hex.specs.Cube.{edges}
@@ -18,12 +18,12 @@ pub edge-key-spec : {M : Type 1} → statement M
 edge-key-spec =
     tie.close
     (tie.spec
-    (λ c κs. search needs)
-    (λ c κs. search needs)
-    (λ c κs. search needs)
-    (λ c. search needs)
-    (λ c κs. search needs)
-    (λ c. search needs)
-    (λ c. search needs)
-    (λ c. search needs)
+    (λ c κs. omega arith)
+    (λ c κs. omega arith)
+    (λ c κs. omega arith)
+    (λ c. omega arith)
+    (λ c κs. omega arith)
+    (λ c. omega arith)
+    (λ c. omega arith)
+    (λ c. omega arith)
     returns)

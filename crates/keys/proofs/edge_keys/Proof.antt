@@ -2,7 +2,6 @@
 use Prim.Native.Nat.{_*_, _-_, min}
 use native.Mathlib.Omega.{arith}
 use mathlib.Core.Path.{_≡_, refl}
-use borrow.Author.Needs.{needs}
 use lib.ListN.{length}
 use Rattle.numbers.proofs.Stored.{Stores, stores-none, stores-more}
 use Rattle.numbering.specs.Refinement.{cellCount}
@@ -39,13 +38,13 @@ edge-keys-spec =
     (tie.spec
     Inv-loop
     μ-loop
-    (λ c κs. search needs)
+    (λ c κs. omega arith)
     (λ c. let few = c .counted .ensures in omega arith)
     (λ c. (refl, stores-none))
     edge-key-requires
     (λ c. let few = c .before .before .before .counted .ensures in omega arith)
     (λ c. let few = c .before .before .before .counted .ensures in omega arith)
-    (λ c. search needs)
-    (λ c. search needs)
+    (λ c. omega arith)
+    (λ c. omega arith)
     loop-again
     returns)

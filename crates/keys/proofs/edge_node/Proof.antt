@@ -1,6 +1,5 @@
 -- `keys::edge_node` meets its contract: the table holds corners. Assumes nothing.
 use native.Mathlib.Omega.{arith}
-use borrow.Author.Needs.{needs}
 use Rattle.numbering.proofs.Cells.{edge-corner}
 use Rattle.keys.proofs.edge_node.Statement.{statement}
 use Rattle.keys.proofs.edge_node.Tie as tie
@@ -21,12 +20,12 @@ pub edge-node-spec : {M : Type 1} → statement M
 edge-node-spec =
     tie.close
     (tie.spec
-    (λ c. search needs)
-    (λ c. search needs)
-    (λ c. search needs)
-    (λ c. search needs)
-    (λ c. search needs)
+    (λ c. omega arith)
+    (λ c. omega arith)
+    (λ c. omega arith)
+    (λ c. omega arith)
+    (λ c. omega arith)
     add-result
     mul-result-4
     shared-slice-read-result
-    (λ c. search needs))
+    (λ c. omega arith))

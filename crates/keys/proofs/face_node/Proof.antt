@@ -1,7 +1,6 @@
 -- `keys::face_node` meets its contract: the table holds corners. Assumes nothing.
 use Prim.Native.Nat.{_+_, _*_}
 use native.Mathlib.Omega.{arith}
-use borrow.Author.Needs.{needs}
 use Rattle.numbering.proofs.Cells.{face-corner}
 use Rattle.keys.proofs.face_node.Statement.{statement}
 use Rattle.keys.proofs.face_node.Tie as tie
@@ -19,12 +18,12 @@ pub face-node-spec : {M : Type 1} → statement M
 face-node-spec =
     tie.close
     (tie.spec
-    (λ c. search needs)
-    (λ c. search needs)
-    (λ c. search needs)
-    (λ c. search needs)
-    (λ c. search needs)
+    (λ c. omega arith)
+    (λ c. omega arith)
+    (λ c. omega arith)
+    (λ c. omega arith)
+    (λ c. omega arith)
     add-result-2
     mul-result-4
     shared-slice-read-result
-    (λ c. search needs))
+    (λ c. omega arith))

@@ -1,5 +1,5 @@
 -- `mat3_inverse::try_inverse` meets its contract: the test is the definition's, and the nine floats are `scaled_cofactors`'. Assumes nothing.
-use borrow.Author.Needs.{needs}
+use native.Mathlib.Omega.{arith}
 use Rattle.mat3_inverse.specs.Inverse.{inverse}
 use Rattle.mat3_inverse.proofs.try_inverse.Statement.{statement}
 use Rattle.mat3_inverse.proofs.try_inverse.Tie as tie
@@ -16,16 +16,16 @@ pub try-inverse-spec : {M : Type 1} → statement M
 try-inverse-spec =
     tie.close
     (tie.spec
-    (λ c κs. search needs)
+    (λ c κs. omega arith)
     returns
-    (λ c κs. search needs)
-    (λ c. search needs)
-    (λ c. search needs)
-    (λ c. search needs)
-    (λ c. search needs)
-    (λ c. search needs)
-    (λ c. search needs)
-    (λ c. search needs)
-    (λ c. search needs)
-    (λ c. search needs)
+    (λ c κs. omega arith)
+    (λ c. omega arith)
+    (λ c. omega arith)
+    (λ c. omega arith)
+    (λ c. omega arith)
+    (λ c. omega arith)
+    (λ c. omega arith)
+    (λ c. omega arith)
+    (λ c. omega arith)
+    (λ c. omega arith)
     returns-2)

@@ -1,6 +1,5 @@
 -- `mesh_children::write_children` meets its contract: the rows copied are the cell's, and the numbers passed are copied out. Assumes nothing.
 use native.Mathlib.Omega.{arith}
-use borrow.Author.Needs.{needs}
 use mathlib.Core.Path.{ap, _∙_}
 use lib.ListN.{length, getD}
 use Rattle.mesh_children.specs.MeshChildren.{row, childrenOf}
@@ -38,17 +37,17 @@ write-children-spec =
     (tie.spec
     (λ c. omega arith)
     (λ c. omega arith)
-    (λ c κs. search needs)
+    (λ c κs. omega arith)
     (λ c. omega arith)
     (λ c. omega arith)
-    (λ c κs. search needs)
+    (λ c κs. omega arith)
     (λ c. omega arith)
     (λ c. omega arith)
-    (λ c κs. search needs)
+    (λ c κs. omega arith)
     (λ c. omega arith)
     (λ c. omega arith)
-    (λ c κs. search needs)
+    (λ c κs. omega arith)
     (λ c. omega arith)
-    (λ c κs. search needs)
+    (λ c κs. omega arith)
     (λ c. omega arith)
     returns)
