@@ -1,4 +1,5 @@
--- The children of a mesh's cells, from lists of their nodes and of the numbers that their edges, faces and centres have. Definitions only.
+-- The children of a mesh's cells, from lists of their nodes and of the numbers that their edges, faces and centres have. No promise to a user cites these.
+-- Definitions only.
 use Prim.Native.Nat.{ℕ, _+_, _*_, _/_, min}
 use mathlib.Core.List.{List}
 use lib.ListN.{length, getD}

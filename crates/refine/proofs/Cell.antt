@@ -76,9 +76,9 @@ module _ (n : ℕ) (few : n ≤ 1024) (cells : List ℕ) (sound : (d : ℕ) → 
       → edges′ ≡ numbered edge-keys edges (12 * c) next 12 → middle ≡ next + newFrom edge-keys (12 * c) 12
       → faces′ ≡ numbered face-keys faces (6 * c) middle 6 → center ≡ middle + newFrom face-keys (6 * c) 6
       → Standing n cells edges′ faces′ (set centers c center) (c + 1) × (center + 1 ≡ nextAfter n (thingsTo cells (c + 1)))
-  cell-more edge-keys face-keys edges′ faces′ middle center edge-keyed face-keyed edge-inside face-inside edge-room face-room room edges-are middle-is faces-are center-is =
-      let edged = by-edges edge-keys edges′ middle edge-keyed edge-inside edge-room edges-are middle-is in
-      let faced = by-faces face-keys edges′ faces′ middle center face-keyed face-inside face-room edged faces-are center-is in
+  cell-more edge-keys face-keys edges′ faces′ middle center edge-keyed face-keyed in-edges in-faces edge-room face-room room edges-are mid faces-are last =
+      let edged = by-edges edge-keys edges′ middle edge-keyed in-edges edge-room edges-are mid in
+      let faced = by-faces face-keys edges′ faces′ middle center face-keyed in-faces face-room edged faces-are last in
       one-more edges′ faces′ middle center room edged faced
 
 -- the numbers of one cell in a list that agrees with a rule up to m cells

@@ -57,6 +57,7 @@ loop-again c =
     let edge-keyed = keys-agree _ 1536 _ (12 * cellCount cells) (edgeKey cells) (ap (λ (m : ℕ). 12 * m) all) (keys .before .edge-keys .ensures) in
     let face-keyed = keys-agree _ 768 _ (6 * cellCount cells) (faceKey cells) (ap (λ (m : ℕ). 6 * m) all) (keys .face-keys .ensures) in
     let below : cell < cellCount cells = first .before .before .before .loop-test .taken in
+    -- facts that have a name here are not looked for in what came before
     let most = start .pre .0 .1 in
     let edges-long = inv .1 in
     let faces-long = inv .2 in
