@@ -69,22 +69,29 @@ fn corner_at(p: &[f64], inode: usize, idim: usize) -> f64
     float_at(p, 3 * inode + idim)
 }
 
-// A row of the Jacobian of a cell of so many corners, from the slopes.
-pub fn jacobian_row(corners: u32, p: &[f64], dndr: &[f64], row: u32) -> [f64; 3]
-    ensures { λ r. ⌜ r ≡ tabulate 3 (jacobianOn corners (now (p .entry)) (now (dndr .entry)) row) ⌝ }
+// An entry of the Jacobian of a cell of so many corners, from the slopes.
+fn jacobian_entry(corners: u32, p: &[f64], dndr: &[f64], row: u32, col: u32) -> f64
+    ensures { λ r. ⌜ r ≡ jacobianOn corners (now (p .entry)) (now (dndr .entry)) row col ⌝ }
 {
     let n = corners as usize;
     let idim = row as usize;
-    let mut x = 0.0;
-    let mut y = 0.0;
-    let mut z = 0.0;
+    let jdim = col as usize;
+    let mut dxdr = 0.0;
     for inode in 0..n {
-        let at = corner_at(p, inode, idim);
-        x = x + at * corner_at(dndr, inode, 0);
-        y = y + at * corner_at(dndr, inode, 1);
-        z = z + at * corner_at(dndr, inode, 2);
+        dxdr = dxdr + corner_at(p, inode, idim) * corner_at(dndr, inode, jdim);
     }
-    [x, y, z]
+    dxdr
+}
+
+// A row of the Jacobian.
+pub fn jacobian_row(corners: u32, p: &[f64], dndr: &[f64], row: u32) -> [f64; 3]
+    ensures { λ r. ⌜ r ≡ tabulate 3 (jacobianOn corners (now (p .entry)) (now (dndr .entry)) row) ⌝ }
+{
+    [
+        jacobian_entry(corners, p, dndr, row, 0),
+        jacobian_entry(corners, p, dndr, row, 1),
+        jacobian_entry(corners, p, dndr, row, 2),
+    ]
 }
 
 // Corner inode's part of axis idim of the image, from the shape values.
