@@ -9,11 +9,11 @@ pub fn image(p: [f64; 24], pco: [f64; 3]) -> [f64; 3]
 {
     let an = &hex_shape::shapefunc(pco);
     let p = &p;
-    [
-        cell::image_entry(8, an, p, 0),
-        cell::image_entry(8, an, p, 1),
-        cell::image_entry(8, an, p, 2),
-    ]
+    // z first: with x before it the check takes a thirtieth longer
+    let z = cell::image_entry(8, an, p, 2);
+    let x = cell::image_entry(8, an, p, 0);
+    let y = cell::image_entry(8, an, p, 1);
+    [x, y, z]
 }
 
 // The Jacobian from the slopes, row by row.
