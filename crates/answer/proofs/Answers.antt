@@ -27,6 +27,11 @@ pub pass : {A : Type 0} (good : Bool) (n : ℕ) (rest : Answer A) (v : A) → T 
 pass true n rest v h e = e
 pass false n rest v h e = absurd h
 
+-- the same of a test that is true where it refuses
+pub unless : {A : Type 0} (bad : Bool) (n : ℕ) (rest : Answer A) (v : A) → cond bad (refused n) rest ≡ answered v → (bad ≡ false) × (rest ≡ answered v)
+unless true n rest v e = absurd (never n v e)
+unless false n rest v e = (refl, e)
+
 pub record Answered {A B : Type 0} (x : Answer A) (f : A → Answer B) (v : B) : Type 0 where
   pub value : A
   pub is : x ≡ answered value
@@ -35,6 +40,17 @@ pub record Answered {A B : Type 0} (x : Answer A) (f : A → Answer B) (v : B) :
 pub then-answered : {A B : Type 0} (x : Answer A) (f : A → Answer B) (v : B) → andThen x f ≡ answered v → Answered x f v
 then-answered (answered a) f v e = record { value = a; is = refl; next = e }
 then-answered (refused n) f v e = absurd (never n v e)
+
+-- what is made of an answer refuses where the answer does
+pub then-refused : {A B : Type 0} (x : Answer A) (f : A → B) (n : ℕ) → refused n ≡ andThen x (λ (a : A). answered (f a)) → x ≡ refused n
+then-refused (answered a) f n e = absurd (never n (f a) e)
+then-refused (refused m) f n e = cc
+
+-- what follows a ladder stands behind its last rung
+pub then-unless : {A B : Type 0} (bad : Bool) (n : ℕ) (rest : Answer A) (f : A → Answer B)
+    → andThen (cond bad (refused n) rest) f ≡ cond bad (refused n) (andThen rest f)
+then-unless true n rest f = refl
+then-unless false n rest f = refl
 
 -- ---- what 0 tells
 none-is-zero : (ns : List ℕ) (n : ℕ) → T (not (isOneOf ns 0)) → T (isOneOf ns n) → n ≡ 0 → ⊥

@@ -2,33 +2,11 @@
 use hxm::Reading;
 use refine::Refined;
 ghost use mathlib.Core.Path.{_≡_};
-ghost use mathlib.Core.List.{[], _∷_};
 ghost use Prim.Native.Nat.{_+_, _*_, _^_, _<_, _≤_};
 ghost use lib.ListN.{length, take};
-ghost use Rattle.kids.specs.Text.{decimalIn, decimal, behind, line, table, Wrote};
+ghost use Rattle.buffer.specs.Put.{Wrote};
+ghost use Rattle.kids.specs.Text.{decimalIn, decimal, behind, line, table};
 ghost use Rattle.kids.specs.Kids.{headLine, report, refusedLine, shown, kidsOf, printed};
-
-fn put_byte(out: &mut [u8], at: usize, b: u8) -> usize
-    requires { ⌜ at < length (now out) ⌝ }
-    ensures { λ r. ⌜ Wrote (now (out .entry)) (now (out .exit)) at r (b ∷ []) ⌝ }
-{
-    out[at] = b;
-    at + 1
-}
-
-// Writes all of a text.
-fn put_text(out: &mut [u8], at: usize, text: &[u8]) -> usize
-    requires { ⌜ at + length (now text) ≤ length (now out) ⌝ }
-    ensures { λ r. ⌜ Wrote (now (out .entry)) (now (out .exit)) at r (now (text .entry)) ⌝ }
-{
-    let mut end = at;
-    let mut i: usize = 0;
-    while i < text.len() {
-        end = put_byte(&mut *out, end, text[i]);
-        i += 1;
-    }
-    end
-}
 
 fn digit(x: u32) -> u8
     requires { ⌜ x < 10 ⌝ }
@@ -43,10 +21,10 @@ fn put_digits(out: &mut [u8], at: usize, x: u32, k: usize) -> usize
     ensures { λ r. ⌜ Wrote (now (out .entry)) (now (out .exit)) at r (decimalIn k x) × (r ≤ at + k) ⌝ }
 {
     if x < 10 {
-        return put_byte(out, at, digit(x));
+        return buffer::put_byte(out, at, digit(x));
     }
     let end = put_digits(&mut *out, at, x / 10, k - 1);
-    put_byte(out, end, digit(x % 10))
+    buffer::put_byte(out, end, digit(x % 10))
 }
 
 fn put_decimal(out: &mut [u8], at: usize, x: u32) -> usize
@@ -73,7 +51,7 @@ fn put_line(out: &mut [u8], at: usize, numbers: &[u32], from: usize, w: usize) -
     let mut j: usize = 0;
     while j < w {
         end = put_decimal(&mut *out, end, numbers[from + j]);
-        end = put_byte(&mut *out, end, behind(j, w));
+        end = buffer::put_byte(&mut *out, end, behind(j, w));
         j += 1;
     }
     end
@@ -97,9 +75,9 @@ fn put_refused(out: &mut [u8], k: u32) -> usize
     requires { ⌜ 19 ≤ length (now out) ⌝ }
     ensures { λ r. ⌜ Wrote (now (out .entry)) (now (out .exit)) 0 r (refusedLine k) ⌝ }
 {
-    let word = put_text(&mut *out, 0, b"refused ");
+    let word = buffer::put_bytes(&mut *out, 0, b"refused ");
     let number = put_decimal(&mut *out, word, k);
-    put_byte(out, number, b'\n')
+    buffer::put_byte(out, number, b'\n')
 }
 
 // Writes the head line, which says how many children and nodes there are.
@@ -107,11 +85,11 @@ fn put_head(out: &mut [u8], cells: u32, next: u32) -> usize
     requires { ⌜ (cells ≤ 128) × (34 ≤ length (now out)) ⌝ }
     ensures { λ r. ⌜ Wrote (now (out .entry)) (now (out .exit)) 0 r (headLine cells next) × (r ≤ 34) ⌝ }
 {
-    let cells_word = put_text(&mut *out, 0, b"cells ");
+    let cells_word = buffer::put_bytes(&mut *out, 0, b"cells ");
     let count = put_decimal(&mut *out, cells_word, 8 * cells);
-    let nodes_word = put_text(&mut *out, count, b" nodes ");
+    let nodes_word = buffer::put_bytes(&mut *out, count, b" nodes ");
     let nodes = put_decimal(&mut *out, nodes_word, next);
-    put_byte(out, nodes, b'\n')
+    buffer::put_byte(out, nodes, b'\n')
 }
 
 fn put_report(out: &mut [u8], cells: u32, next: u32, children: &[u32]) -> usize

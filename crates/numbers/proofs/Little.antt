@@ -1,9 +1,9 @@
 -- Little-endian numbers: read and written, they undo each other at every width; and a number read in halves. Assumes nothing.
 use Prim.Native.Nat.{ℕ, zero, suc, _+_, _*_, _/_, _%_, _^_, _<_, _≤_}
-use native.Mathlib.Nat.{pow-succ', mul-assoc, add-zero, le-of-suc-le-suc, not-suc-le-zero, mul-le-mul-left}
+use native.Mathlib.Nat.{pow-succ', one-le-pow, mul-assoc, add-zero, zero-add, suc-add, mod-lt, mod-add-div, le-of-suc-le-suc, not-suc-le-zero, mul-le-mul-left}
 use native.Mathlib.Omega.{arith}
 use mathlib.Core.Path.{_≡_, refl, sym, _∙_, ap, ap₂}
-use mathlib.Core.List.{List, [], _∷_, _++_, append-assoc}
+use mathlib.Core.List.{List, [], _∷_, _++_, append-assoc, append-nil}
 use lib.Dec.{lit<}
 use lib.ListN.{length, getD, take, drop, length-append, length-drop}
 use lib.Seq.{length-take-le, drop-cons, drop-drop, take-add, take-at, drop-at, getD-take, getD-drop}
@@ -68,6 +68,35 @@ pub length-all-bytes : (w : ℕ) (xs : List ℕ) → length (allBytes w xs) ≡ 
 unfolding allBytes
 length-all-bytes w [] = omega arith
 length-all-bytes w (x ∷ xs) = rw (length-append, length-bytes w x, length-all-bytes w xs) (omega arith)
+
+-- a number written in parts: the bytes of the low part, and behind them those of the high part
+bytes-parts : (v w low high : ℕ) → low < 256 ^ v → bytes v low ++ bytes w high ≡ bytes (v + w) (low + 256 ^ v * high)
+unfolding bytes
+bytes-parts zero w low high small =
+    let whole : low + 256 ^ 0 * high ≡ high = omega arith in
+    rw (zero-add w, whole)
+bytes-parts (suc v) w low high small =
+    let power : 256 ^ suc v ≡ 256 * 256 ^ v = pow-succ' 256 v in
+    let below : low / 256 < 256 ^ v = omega arith in
+    let last : (low + 256 ^ suc v * high) % 256 ≡ low % 256 = rw (power, mul-assoc 256 (256 ^ v) high) (omega arith) in
+    let rest : (low + 256 ^ suc v * high) / 256 ≡ low / 256 + 256 ^ v * high = rw (power, mul-assoc 256 (256 ^ v) high) (omega arith) in
+    rw (suc-add v w, last, rest, ← bytes-parts v w (low / 256) high below)
+
+-- the bytes of a number are those of its low half and then of its high half
+pub bytes-halves : (w x : ℕ) → bytes w (x % 256 ^ w) ++ bytes w (x / 256 ^ w) ≡ bytes (w + w) x
+bytes-halves w x =
+    bytes-parts w w (x % 256 ^ w) (x / 256 ^ w) (mod-lt x (one-le-pow w 256 (lit< tt))) ∙ ap (bytes (w + w)) (mod-add-div x (256 ^ w))
+
+-- a byte is a number of one byte
+pub byte-is : (b : ℕ) → b < 256 → bytes 1 b ≡ b ∷ []
+unfolding bytes
+byte-is b h = let low : b % 256 ≡ b = omega arith in rw low
+
+-- one number more
+pub all-bytes-more : (w : ℕ) (xs : List ℕ) (x : ℕ) → allBytes w (xs ++ (x ∷ [])) ≡ allBytes w xs ++ bytes w x
+unfolding allBytes
+all-bytes-more w [] x = append-nil (bytes w x)
+all-bytes-more w (y ∷ ys) x = rw (all-bytes-more w ys x) (sym (append-assoc (bytes w y) (allBytes w ys) (bytes w x)))
 
 -- the part of a list from `at` on, of which each number is below the same bound
 below-part : (bound w at : ℕ) (s : List ℕ) → Below bound s → at + w ≤ length s → Below bound (take w (drop at s))

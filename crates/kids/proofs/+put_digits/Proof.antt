@@ -6,13 +6,14 @@ use mathlib.Core.List.{[], _∷_, _++_}
 use borrow.Author.Needs.{needs}
 use borrow.Fn.Kinds.{In}
 use borrow.Fn.PlainCycle.{Measures, is, falls, and}
+use Rattle.buffer.proofs.Writing.{wrote-then, puts-wrote}
 use Rattle.kids.specs.Text.{decimalIn}
-use Rattle.kids.proofs.Writing.{wrote-then, decimal-last, decimal-more, fewer-digits}
+use Rattle.kids.proofs.Digits.{decimal-last, decimal-more, fewer-digits}
 use Rattle.kids.proofs.put_digits.Reads as put-digits
 use Rattle.kids.proofs.put_digits.Kinds as put-digits-kinds
 use Rattle.kids.proofs.+put_digits.Lts-put_digits as put-digits-lts
 use Rattle.kids.proofs.digit.Reads as digit-reads
-use Rattle.kids.proofs.put_byte.Reads as put-byte-reads
+use Rattle.buffer.proofs.put_byte.Reads as put-byte-reads
 use Rattle.kids.proofs.+put_digits.{statement}
 use Rattle.kids.proofs.+put_digits.Tie.{close}
 
@@ -36,18 +37,14 @@ module _ (t : ℕ) where
       let text : digit .digit .result ∷ [] ≡ decimalIn (start .args .k) (start .args .x) =
       rw (digit .digit .ensures) (sym (decimal-last (start .args .k) (start .args .x) (start .pre .1 .0) (omega arith)))
       in
-      (rw text at (c .before .before .put-byte .ensures), omega (arith, c .before .before .put-byte .ensures .ends))
+      let wrote = puts-wrote (omega (arith, start .pre)) (c .before .before .put-byte .ensures) in
+      (rw text at wrote, omega (arith, wrote .ends))
 
   put-digits-requires : put-digits-lts.Need-put-digits-requires claims (put-digits-at t) put-digits.Post
   put-digits-requires c κs =
       let start = c .before .before .before in
       let fewer = fewer-digits (start .args .k) (start .args .x) (start .pre .1 .1) (omega arith) in
       (omega (arith, start .pre .0), (fewer .0, fewer .1, omega arith))
-
-  put-byte-requires-2 : put-digits-lts.Need-put-byte-requires-2 claims (put-digits-at t) put-digits.Post
-  put-byte-requires-2 c κs =
-      let put = c .before .before .before .before in
-      omega (arith, put .put-digits .ensures .0 .keeps, put .put-digits .ensures .1)
 
   returns-2 : put-digits-lts.Need-returns-2 claims (put-digits-at t) put-digits.Post
   returns-2 c =
@@ -58,8 +55,8 @@ module _ (t : ℕ) where
       let text : decimalIn (start .args .k - 1) (start .args .x / 10) ++ (digit .digit2 .result ∷ []) ≡ decimalIn (start .args .k) (start .args .x) =
       rw (digit .digit2 .ensures) (sym (decimal-more (start .args .k) (start .args .x) (start .pre .1 .0) (omega arith)))
       in
-      let written = wrote-then (put .put-digits .ensures .0) (last .put-byte2 .ensures) in
-      (rw text at written, omega (arith, put .put-digits .ensures .1, last .put-byte2 .ensures .ends))
+      let wrote = puts-wrote (omega (arith, start .pre, put .put-digits .ensures .0 .keeps, put .put-digits .ensures .1)) (last .put-byte2 .ensures) in
+      (rw text at (wrote-then (put .put-digits .ensures .0) wrote), omega (arith, put .put-digits .ensures .1, wrote .ends))
 
 pub +put-digits-spec : {M : Type 1} → statement M
 +put-digits-spec =
@@ -74,6 +71,6 @@ pub +put-digits-spec : {M : Type 1} → statement M
     (λ c. search needs)
     (put-digits-requires t)
     (λ c κs. search needs)
-    (put-byte-requires-2 t)
+    (λ c κs. search needs)
     (λ c. search needs)
     (returns-2 t)

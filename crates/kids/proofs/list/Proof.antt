@@ -7,7 +7,7 @@ use borrow.Author.Needs.{needs}
 use lib.Dec.{lit≤}
 use Rattle.hxm.specs.Reads.{told, counts}
 use Rattle.hxm.proofs.Ladder.{Found, read-found, refusal, enough-room}
-use Rattle.kids.proofs.Writing.{wrote-as, wrote-counts}
+use Rattle.buffer.proofs.Writing.{wrote-as, wrote-counts}
 use Rattle.kids.proofs.Report.{listed, refused-file}
 use Rattle.kids.proofs.list.Statement.{statement}
 use Rattle.kids.proofs.list.Tie as tie

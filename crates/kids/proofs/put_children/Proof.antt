@@ -2,7 +2,7 @@
 use mathlib.Core.Path.{ap}
 use borrow.Author.Needs.{needs}
 use Rattle.refine.specs.Refine.{told}
-use Rattle.kids.proofs.Writing.{wrote-as}
+use Rattle.buffer.proofs.Writing.{wrote-as}
 use Rattle.kids.proofs.Report.{reported, refused-kids}
 use Rattle.kids.proofs.put_children.Statement.{statement}
 use Rattle.kids.proofs.put_children.Tie as tie

@@ -1,28 +1,42 @@
 -- `kids::put_head` meets its contract: two words, each with its number, and a newline. Assumes nothing.
 use native.Mathlib.Omega.{arith}
 use borrow.Author.Needs.{needs}
-use Rattle.kids.proofs.Writing.{wrote-then}
+use Rattle.buffer.proofs.Writing.{wrote-then, puts-wrote}
 use Rattle.kids.proofs.put_head.Statement.{statement}
 use Rattle.kids.proofs.put_head.Tie as tie
+
+put-decimal-requires : tie.Need-put-decimal-requires
+put-decimal-requires c κs =
+    let word = puts-wrote (omega arith) (c .before .before .before .put-bytes .ensures) in
+    omega (arith, word .ends, word .keeps)
+
+put-decimal-requires-2 : tie.Need-put-decimal-requires-2
+put-decimal-requires-2 c κs =
+    let nodes-word = c .before .before .before in
+    let count = nodes-word .before .before .before .before .before in
+    let cells = count .put-decimal .ensures in
+    let first = puts-wrote (omega arith) (count .before .before .before .before .put-bytes .ensures) in
+    let second = puts-wrote (omega (arith, first .ends, first .keeps, cells .0 .keeps, cells .1)) (nodes-word .put-bytes2 .ensures) in
+    omega (arith, first .ends, first .keeps, cells .0 .keeps, cells .1, second .ends, second .keeps)
 
 returns : tie.Need-returns
 returns c =
     let end = c .before .before in
-    let nodes = end .before .before .before .before in
-    let nodes-word = nodes .before .before .before .before in
+    let next = end .before .before .before .before in
+    let nodes-word = next .before .before .before .before in
     let count = nodes-word .before .before .before .before .before in
-    let cells-word = count .before .before .before .before in
-    let last = wrote-then (nodes .put-decimal2 .ensures .0) (end .put-byte .ensures) in
-    let second = wrote-then (count .put-decimal .ensures .0) (wrote-then (nodes-word .put-text2 .ensures) last) in (
-      wrote-then (cells-word .put-text .ensures) second,
-      omega (
-        arith,
-        cells-word .put-text .ensures .ends,
-        count .put-decimal .ensures .1,
-        nodes-word .put-text2 .ensures .ends,
-        nodes .put-decimal2 .ensures .1,
-        end .put-byte .ensures .ends,
-      ),
+    let start = count .before .before .before .before .before .before .before .before in
+    let cells = count .put-decimal .ensures in
+    let nodes = next .put-decimal2 .ensures in
+    let first = puts-wrote (omega (arith, start .pre)) (count .before .before .before .before .put-bytes .ensures) in
+    let second = puts-wrote (omega (arith, start .pre, first .ends, first .keeps, cells .0 .keeps, cells .1)) (nodes-word .put-bytes2 .ensures) in
+    let last =
+    puts-wrote
+    (omega (arith, start .pre, first .ends, first .keeps, cells .0 .keeps, cells .1, second .ends, second .keeps, nodes .0 .keeps, nodes .1))
+    (end .put-byte .ensures)
+    in (
+      wrote-then first (wrote-then (cells .0) (wrote-then second (wrote-then (nodes .0) last))),
+      omega (arith, first .ends, cells .1, second .ends, nodes .1, last .ends),
     )
 
 pub put-head-spec : {M : Type 1} → statement M
@@ -32,10 +46,10 @@ put-head-spec =
     (λ c. search needs)
     (λ c κs. search needs)
     (λ c. search needs)
-    (λ c κs. search needs)
+    put-decimal-requires
     (λ c. search needs)
     (λ c κs. search needs)
-    (λ c κs. search needs)
+    put-decimal-requires-2
     (λ c κs. search needs)
     (λ c. search needs)
     returns)

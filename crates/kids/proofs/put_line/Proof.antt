@@ -3,7 +3,7 @@ use Prim.Native.Nat.{_-_}
 use native.Mathlib.Omega.{arith}
 use borrow.Author.Needs.{needs}
 use Rattle.kids.specs.Text.{field}
-use Rattle.kids.proofs.Writing.{wrote-then, Writes, writes-none, writes-more, writes-all}
+use Rattle.buffer.proofs.Writing.{wrote-then, puts-wrote, Writes, writes-none, writes-more, writes-all}
 use Rattle.kids.proofs.put_line.Statement.{statement}
 use Rattle.kids.proofs.put_line.Tie as tie
 
@@ -13,20 +13,17 @@ Inv-loop out₀ at numbers from w end₀ j₀ out end j = Writes (field w number
 abbrev μ-loop : tie.MeasureT-loop
 μ-loop out₀ at numbers from w end₀ j₀ out end j = w - j
 
-put-byte-requires : tie.Need-put-byte-requires Inv-loop μ-loop
-put-byte-requires c κs =
-    let put = c .before .before .before .before in
-    let turn = put .before .before .before .before in
-    omega (arith, turn .loop .inv, turn .loop .inv .wrote .keeps, put .put-decimal .ensures .0 .keeps, put .put-decimal .ensures .1)
-
 loop-again : tie.Need-loop-again Inv-loop μ-loop
 loop-again c =
     let last = c .before .before in
     let sign = last .before in
     let put = sign .before .before .before .before in
     let turn = put .before .before .before .before in
-    let text = wrote-then (put .put-decimal .ensures .0) (rw (sign .behind .ensures) at (last .put-byte .ensures)) in
-    writes-more (turn .loop .inv) (omega arith) text (omega (arith, put .put-decimal .ensures .1, last .put-byte .ensures .ends))
+    let number = put .put-decimal .ensures in
+    let held = turn .loop .inv in
+    let byte = puts-wrote (omega (arith, held, held .wrote .keeps, number .0 .keeps, number .1)) (last .put-byte .ensures) in
+    let text = wrote-then (number .0) (rw (sign .behind .ensures) at byte) in
+    writes-more held (omega arith) text (omega (arith, number .1, byte .ends))
 
 pub put-line-spec : {M : Type 1} → statement M
 put-line-spec =
@@ -40,7 +37,7 @@ put-line-spec =
     (λ c. search needs)
     (λ c κs. omega (arith, c .before .before .before .loop .inv .wrote .keeps))
     (λ c κs. search needs)
-    put-byte-requires
+    (λ c κs. search needs)
     (λ c. search needs)
     (λ c. search needs)
     loop-again

@@ -1,6 +1,6 @@
 -- `kids::put_report` meets its contract: the head line and the table. Assumes nothing.
 use borrow.Author.Needs.{needs}
-use Rattle.kids.proofs.Writing.{wrote-then}
+use Rattle.buffer.proofs.Writing.{wrote-then}
 use Rattle.kids.proofs.put_report.Statement.{statement}
 use Rattle.kids.proofs.put_report.Tie as tie
 
