@@ -16,8 +16,8 @@ use Rattle.numbers.proofs.Little.{little-endian, number-bytes, number-behind, n
 use Rattle.answer.specs.Answer.{answered}
 use Rattle.faults.specs.Faults.{node, Sound}
 use Rattle.faults.proofs.Faults.{faultless-is-sound}
-use Rattle.hxm.specs.Format.{Mesh, mark, fileOf, version, nodeCount, cellCount, cellsFrom, marked, faultOf, meshAt}
-use Rattle.hxm.specs.Format.{Good, FilesOfMeshes}
+use Rattle.hxm.specs.Format.{nodeBytes, cellBytes, Mesh, mark, headOf, nodesPart, cellsPart, fileOf, headLength, version, nodeCount, cellCount}
+use Rattle.hxm.specs.Format.{cellsFrom, marked, faultOf, meshAt, Good, FilesOfMeshes}
 use Rattle.hxm.proofs.Ladder.{Passed, accepted-passed, passed-accepted}
 
 -- from bytes to a mesh
@@ -53,7 +53,7 @@ module _ (s : List ℕ) (are : Below 256 s) (p : Passed s) where
       sym (little-endian .bytesBack 4 at (8 * cellCount s) s are (omega (arith, p .whole)) ∙ take-all (4 * (8 * cellCount s)) (drop at s) long)
 
   is-file : s ≡ fileOf (meshAt s)
-  unfolding meshAt
+  unfolding meshAt bytes
   is-file =
       let words = allBytes 8 (meshAt s .coords) in
       let numbers = allBytes 4 (meshAt s .corners) in
@@ -84,16 +84,22 @@ module _ (s : List ℕ) (are : Below 256 s) (p : Passed s) where
 abbrev mesh : ℕ → ℕ → List ℕ → List ℕ → Mesh
 mesh n c x k = record { nodes = n; cells = c; coords = x; corners = k }
 
-same-mesh : (n m c d : ℕ) (x y k l : List ℕ) → n ≡ m → c ≡ d → x ≡ y → k ≡ l → mesh n c x k ≡ mesh m d y l
+pub same-mesh : (n m c d : ℕ) (x y k l : List ℕ) → n ≡ m → c ≡ d → x ≡ y → k ≡ l → mesh n c x k ≡ mesh m d y l
 same-mesh n m c d x y k l en ec ex ek = simp (en, ec, ex, ek)
+
+-- a file is its head, eight bytes a word and four a number
+pub length-file : (m : Mesh) → length (fileOf m) ≡ headLength + 8 * length (m .coords) + 4 * length (m .corners)
+unfolding bytes
+length-file m =
+    rw (length-append (nodesPart (m .coords)) (cellsPart (m .corners)), length-all-bytes 8 (m .coords), length-all-bytes 4 (m .corners)) (omega arith)
 
 module _ (m : Mesh) (g : Good m) where
   abbrev head : List ℕ
-  head = mark ++ (bytes 2 1 ++ (bytes 4 (m .nodes) ++ bytes 4 (m .cells)))
+  head = headOf 1 (m .nodes) (m .cells)
 
   -- the counts as they are read back
   abbrev body : List ℕ
-  body = allBytes 8 (m .coords) ++ allBytes 4 (m .corners)
+  body = nodesPart (m .coords) ++ cellsPart (m .corners)
 
   nodes-back : nodeCount (fileOf m) ≡ m .nodes
   unfolding bytes
@@ -104,7 +110,8 @@ module _ (m : Mesh) (g : Good m) where
   cells-back = number-behind 4 (m .cells) (mark ++ (bytes 2 1 ++ bytes 4 (m .nodes))) body (omega (arith, g .cellsFew))
 
   version-back : version (fileOf m) ≡ 1
-  version-back = number-behind 2 1 mark _ (omega arith)
+  unfolding bytes
+  version-back = number-behind 2 1 mark (bytes 4 (m .nodes) ++ (bytes 4 (m .cells) ++ body)) (omega arith)
 
   coords-back : numbersAt (fileOf m) 8 13 (3 * nodeCount (fileOf m)) ≡ m .coords
   unfolding bytes
@@ -130,32 +137,24 @@ module _ (m : Mesh) (g : Good m) where
       rw (nodes-back, cells-back, ← g .cornersWhole, ← from-is)
       (subst (λ (l : List ℕ). numbersAt l 4 (length before) (length corners) ≡ corners) whole (little-endian .numbersBack 4 corners before [] corner-below))
 
-  length-file : length (fileOf m) ≡ 13 + 24 * m .nodes + 32 * m .cells
-  unfolding bytes
-  length-file =
-      rw (
-        length-append (allBytes 8 (m .coords)) (allBytes 4 (m .corners)),
-        length-all-bytes 8 (m .coords),
-        length-all-bytes 4 (m .corners),
-        g .coordsWhole,
-        g .cornersWhole,
-      ) (omega arith)
+  length-good : length (fileOf m) ≡ headLength + nodeBytes * m .nodes + cellBytes * m .cells
+  length-good = length-file m ∙ rw (g .coordsWhole, g .cornersWhole) (omega arith)
 
   mesh-back : meshAt (fileOf m) ≡ m
   unfolding meshAt
   mesh-back = same-mesh _ _ _ _ _ _ _ _ nodes-back cells-back coords-back corners-back
 
   file-passed : Passed (fileOf m)
-  unfolding faultOf bytes
+  unfolding faultOf meshAt bytes
   file-passed =
       let sound : (c : ℕ) → c < length (m .corners) / 8 → Sound (m .nodes) 8 (node 8 (m .corners) c) = λ c h. g .sound c (omega (arith, g .cornersWhole)) in
       record {
-        long = omega (arith, length-file);
+        long = omega (arith, length-good);
         mark = refl;
         one = version-back;
         nodesFew = rw nodes-back (g .nodesFew);
         cellsFew = rw cells-back (g .cellsFew);
-        whole = rw (nodes-back, cells-back) length-file;
+        whole = rw (nodes-back, cells-back) length-good;
         faultless = rw (corners-back, nodes-back) (faultless-is-sound .faultless (m .nodes) 8 (m .corners) sound);
       }
 

@@ -12,8 +12,9 @@ use Rattle.numbers.specs.Rule.{tabulate}
 use Rattle.numbers.specs.Little.{numberAt, numbersAt}
 use Rattle.numbers.proofs.Stored.{length-tabulate}
 use Rattle.answer.specs.Answer.{Answer, answered, refused}
+use Rattle.answer.proofs.Answers.{unless, then-unless, then-refused}
 use Rattle.faults.specs.Faults.{firstFault}
-use Rattle.hxm.specs.Format.{Mesh, version, nodeCount, cellCount, cellsFrom, fileLength, marked, faultOf, meshAt, meshOf}
+use Rattle.hxm.specs.Format.{mostNodes, mostCells, mostWords, mostNumbers, nodeWords, cellNumbers, nodeBytes, cellBytes, headLength, Mesh, version, nodeCount, cellCount, cellsFrom, fileLength, marked, faultOf, meshAt, meshOf}
 use Rattle.hxm.specs.Reads.{counts, meshInto, Reads, ToldLosesNothing}
 use Rattle.hxm.specs.declared.Reading.the-variants.{Mesh as Counts, Refused}
 
@@ -27,14 +28,10 @@ pub record Passed (s : List ℕ) : Type 0 where
   pub long : 13 ≤ length s
   pub mark : marked s ≡ true
   pub one : version s ≡ 1
-  pub nodesFew : nodeCount s ≤ 1024
-  pub cellsFew : cellCount s ≤ 128
+  pub nodesFew : nodeCount s ≤ mostNodes
+  pub cellsFew : cellCount s ≤ mostCells
   pub whole : length s ≡ fileLength s
   pub faultless : faultOf s ≡ 0
-
-step : {A : Type 0} (test : Bool) (k : ℕ) (rest : Answer A) (a : A) → cond test (refused k) rest ≡ answered a → (test ≡ false) × (rest ≡ answered a)
-step true k rest a e = (cc, cc)
-step false k rest a e = (refl, e)
 
 pub neither : (a b : Bool) → (a || b) ≡ false → (a ≡ false) × (b ≡ false)
 neither true b e = (e, cc)
@@ -43,19 +40,19 @@ neither false b e = (refl, e)
 pub accepted-passed : (s : List ℕ) (m : Mesh) → meshOf s ≡ answered m → Passed s × (meshAt s ≡ m)
 unfolding meshOf
 accepted-passed s m e =
-    let s1 = step (ltb (length s) 13) 13 _ m e in
-    let s2 = step (not (marked s)) 11 _ m (s1 .1) in
-    let s3 = step (not (eqb (version s) 1)) 12 _ m (s2 .1) in
-    let s4 = step (ltb 1024 (nodeCount s) || ltb 128 (cellCount s)) 7 _ m (s3 .1) in
-    let s5 = step (not (eqb (length s) (fileLength s))) 13 _ m (s4 .1) in
-    let s6 = step (not (eqb (faultOf s) 0)) (faultOf s) (answered (meshAt s)) m (s5 .1) in
-    let few = neither (ltb 1024 (nodeCount s)) (ltb 128 (cellCount s)) (s4 .0) in (
+    let s1 = unless (ltb (length s) 13) 13 _ m e in
+    let s2 = unless (not (marked s)) 11 _ m (s1 .1) in
+    let s3 = unless (not (eqb (version s) 1)) 12 _ m (s2 .1) in
+    let s4 = unless (ltb mostNodes (nodeCount s) || ltb mostCells (cellCount s)) 7 _ m (s3 .1) in
+    let s5 = unless (not (eqb (length s) (fileLength s))) 13 _ m (s4 .1) in
+    let s6 = unless (not (eqb (faultOf s) 0)) (faultOf s) (answered (meshAt s)) m (s5 .1) in
+    let few = neither (ltb mostNodes (nodeCount s)) (ltb mostCells (cellCount s)) (s4 .0) in (
       record {
         long = ltb-false (length s) 13 (s1 .0);
         mark = not-false (marked s) (s2 .0);
         one = eqb-true (version s) 1 (not-false (eqb (version s) 1) (s3 .0));
-        nodesFew = ltb-false 1024 (nodeCount s) (few .0);
-        cellsFew = ltb-false 128 (cellCount s) (few .1);
+        nodesFew = ltb-false mostNodes (nodeCount s) (few .0);
+        cellsFew = ltb-false mostCells (cellCount s) (few .1);
         whole = eqb-true (length s) (fileLength s) (not-false (eqb (length s) (fileLength s)) (s5 .0));
         faultless = eqb-true (faultOf s) 0 (not-false (eqb (faultOf s) 0) (s6 .0));
       },
@@ -69,36 +66,32 @@ passed-accepted s p =
       le-ltb (length s) 13 (p .long),
       p .mark,
       eq-eqb (version s) 1 (p .one),
-      le-ltb 1024 (nodeCount s) (p .nodesFew),
-      le-ltb 128 (cellCount s) (p .cellsFew),
+      le-ltb mostNodes (nodeCount s) (p .nodesFew),
+      le-ltb mostCells (cellCount s) (p .cellsFew),
       eq-eqb (length s) (fileLength s) (p .whole),
       eq-eqb (faultOf s) 0 (p .faultless),
     )
 
 -- the ladder behind the first rung, over what the head says, from its last rungs up
 abbrev pub faultBy : List ℕ → ℕ → ℕ → ℕ
-faultBy s n c = firstFault n 8 (numbersAt s 4 (13 + 24 * n) (8 * c))
+faultBy s n c = firstFault n cellNumbers (numbersAt s 4 (headLength + nodeBytes * n) (cellNumbers * c))
 
 abbrev pub byFault : List ℕ → ℕ → ℕ → Answer (List ℕ)
 byFault s n c = cond (not (eqb (faultBy s n c) 0)) (refused (faultBy s n c)) (answered (n ∷ c ∷ []))
 
 abbrev pub byLength : List ℕ → ℕ → ℕ → Answer (List ℕ)
-byLength s n c = cond (not (eqb (length s) (13 + 24 * n + 32 * c))) (refused 13) (byFault s n c)
+byLength s n c = cond (not (eqb (length s) (headLength + nodeBytes * n + cellBytes * c))) (refused 13) (byFault s n c)
 
 abbrev pub byLimits : List ℕ → ℕ → ℕ → Answer (List ℕ)
-byLimits s n c = cond (ltb 1024 n || ltb 128 c) (refused 7) (byLength s n c)
+byLimits s n c = cond (ltb mostNodes n || ltb mostCells c) (refused 7) (byLength s n c)
 
 abbrev pub rungs : List ℕ → Bool → ℕ → ℕ → ℕ → Answer (List ℕ)
 rungs s mark v n c = cond (not mark) (refused 11) (cond (not (eqb v 1)) (refused 12) (byLimits s n c))
 
-cond-counts : (test : Bool) (k : ℕ) (rest : Answer Mesh) → counts (cond test (refused k) rest) ≡ cond test (refused k) (counts rest)
-cond-counts true k rest = refl
-cond-counts false k rest = refl
-
 pub climbed : (s : List ℕ) (mark : Bool) (v n c : ℕ) → 13 ≤ length s → mark ≡ marked s → v ≡ version s → n ≡ nodeCount s → c ≡ cellCount s
     → counts (meshOf s) ≡ rungs s mark v n c
 unfolding meshOf faultOf meshAt
-climbed s mark v n c long em ev en ec = rw (le-ltb (length s) 13 long, em, ev, en, ec) (simp cond-counts)
+climbed s mark v n c long em ev en ec = rw (le-ltb (length s) 13 long, em, ev, en, ec) (simp then-unless)
 
 -- what the counts of an answer say of the file
 pub record Counted (s : List ℕ) (n c : ℕ) : Type 0 where
@@ -117,8 +110,7 @@ counted s n c e = by (meshOf s) refl e
     by (refused k) is e = let never : _≡_ {A = ℕ} 0 1 = cc in absurd (omega arith)
 
 pub refusal : (found : Answer Mesh) (k : ℕ) → refused k ≡ counts found → found ≡ refused k
-refusal (answered m) k e = cc
-refusal (refused l) k e = cc
+refusal found k e = then-refused found (λ (m : Mesh). m .nodes ∷ m .cells ∷ []) k e
 
 -- what is left of the lent lists by a refusal, and by a success
 pub untouched : (found : Answer Mesh) (k : ℕ) (nodes cells : List ℕ) → found ≡ refused k → Reads found (Refused k) nodes nodes cells cells
@@ -161,7 +153,7 @@ module _ (coords corners : ℕ) (s : List ℕ) where
         })
 
 -- lists that have room for the largest mesh are never too short
-pub enough-room : (coords corners : ℕ) (s : List ℕ) → 3072 ≤ coords → 1024 ≤ corners → meshInto coords corners s ≡ meshOf s
+pub enough-room : (coords corners : ℕ) (s : List ℕ) → mostWords ≤ coords → mostNumbers ≤ corners → meshInto coords corners s ≡ meshOf s
 enough-room coords corners s room space = by (meshOf s) refl
   where
     by : (found : Answer Mesh) → meshOf s ≡ found → meshInto coords corners s ≡ found
@@ -177,7 +169,7 @@ pub record Found (s : List ℕ) (n c : ℕ) (cells : List ℕ) : Type 0 where
   pub corners : take (8 * c) cells ≡ meshAt s .corners
   pub long : length (take (8 * c) cells) ≡ 8 * c
 
-pub read-found : (coords corners : ℕ) (s : List ℕ) (n c : ℕ) (nodes nodes′ cells cells′ : List ℕ) → 3072 ≤ coords → 1024 ≤ corners
+pub read-found : (coords corners : ℕ) (s : List ℕ) (n c : ℕ) (nodes nodes′ cells cells′ : List ℕ) → mostWords ≤ coords → mostNumbers ≤ corners
     → Reads (meshInto coords corners s) (Counts n c) nodes nodes′ cells cells′ → Found s n c cells′
 unfolding meshAt
 read-found coords corners s n c nodes nodes′ cells cells′ room space r =

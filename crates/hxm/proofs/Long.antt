@@ -10,7 +10,8 @@ use lib.Seq.{take-all, take-take, length-take-le, getD-take, take-nil}
 use borrow.Author.Tests.{le-ltb, ltb-true, ltb-false, ne-eqb}
 use Rattle.numbers.specs.Little.{numberAt}
 use Rattle.answer.specs.Answer.{Answer, answered, refused}
-use Rattle.hxm.specs.Format.{Mesh, version, nodeCount, cellCount, fileLength, marked, faultOf, meshAt, meshOf, EnoughToTell}
+use Rattle.hxm.specs.Format.{mostNodes, mostCells, Mesh, version, nodeCount, cellCount, fileLength, marked, faultOf, meshAt, meshOf}
+use Rattle.hxm.specs.Format.{longestFile, EnoughToTell}
 use Rattle.hxm.proofs.Ladder.{neither}
 
 drop-take : (m n : ℕ) (l : List ℕ) → drop m (take n l) ≡ take (n - m) (drop m l)
@@ -30,20 +31,20 @@ marked-of-part s room fits = rw (getD-take room s 0 0 (omega arith), getD-take r
 -- what the head alone says of a file that is too long
 abbrev byHead : Bool → ℕ → ℕ → ℕ → Answer Mesh
 byHead mark v n c =
-    cond (not mark) (refused 11) (cond (not (eqb v 1)) (refused 12) (cond (ltb 1024 n || ltb 128 c) (refused 7) (refused 13)))
+    cond (not mark) (refused 11) (cond (not (eqb v 1)) (refused 12) (cond (ltb mostNodes n || ltb mostCells c) (refused 7) (refused 13)))
 
 -- within the limits, the length is wrong
-module _ (s : List ℕ) (long : 28685 < length s) where
+module _ (s : List ℕ) (long : longestFile < length s) where
   abbrev body : Answer Mesh
   body = cond (not (eqb (length s) (fileLength s))) (refused 13) (cond (not (eqb (faultOf s) 0)) (refused (faultOf s)) (answered (meshAt s)))
 
   abbrev many : Bool
-  many = ltb 1024 (nodeCount s) || ltb 128 (cellCount s)
+  many = ltb mostNodes (nodeCount s) || ltb mostCells (cellCount s)
 
   wrong-length : many ≡ false → body ≡ refused 13
   wrong-length few =
-      let nodes : nodeCount s ≤ 1024 = ltb-false 1024 (nodeCount s) (neither (ltb 1024 (nodeCount s)) (ltb 128 (cellCount s)) few .0) in
-      let cells : cellCount s ≤ 128 = ltb-false 128 (cellCount s) (neither (ltb 1024 (nodeCount s)) (ltb 128 (cellCount s)) few .1) in
+      let nodes : nodeCount s ≤ mostNodes = ltb-false mostNodes (nodeCount s) (neither (ltb mostNodes (nodeCount s)) (ltb mostCells (cellCount s)) few .0) in
+      let cells : cellCount s ≤ mostCells = ltb-false mostCells (cellCount s) (neither (ltb mostNodes (nodeCount s)) (ltb mostCells (cellCount s)) few .1) in
       rw (ne-eqb (length s) (fileLength s) (λ e. omega (arith, e)))
 
   at-most-13 : (test : Bool) → many ≡ test → cond test (refused 7) body ≡ cond test (refused 7) (refused 13)

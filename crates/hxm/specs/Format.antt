@@ -10,7 +10,35 @@ use Rattle.numbers.specs.Little.{numberAt, numbersAt, bytes, allBytes, Below}
 use Rattle.answer.specs.Answer.{Answer, answered, refused}
 use Rattle.faults.specs.Faults.{node, firstFault, Sound}
 
--- how many nodes and cells, "three float64 bit patterns" a node, and "eight 32-bit numbers" a cell
+-- "over 1,024 nodes, 128 cells"
+abbrev pub mostNodes : ℕ
+mostNodes = 1024
+
+abbrev pub mostCells : ℕ
+mostCells = 128
+
+-- "nodes of three float64 bit patterns, cells of eight 32-bit numbers"
+abbrev pub nodeWords : ℕ
+nodeWords = 3
+
+abbrev pub cellNumbers : ℕ
+cellNumbers = 8
+
+-- so a mesh has at most so many words and numbers: 3,072 and 1,024
+abbrev pub mostWords : ℕ
+mostWords = nodeWords * mostNodes
+
+abbrev pub mostNumbers : ℕ
+mostNumbers = cellNumbers * mostCells
+
+-- and a node and a cell are so many bytes: 24 and 32
+abbrev pub nodeBytes : ℕ
+nodeBytes = 8 * nodeWords
+
+abbrev pub cellBytes : ℕ
+cellBytes = 4 * cellNumbers
+
+-- how many nodes and cells, the words of the nodes, and the numbers of the cells
 pub record Mesh : Type 0 where
   pub nodes : ℕ
   pub cells : ℕ
@@ -21,11 +49,21 @@ pub record Mesh : Type 0 where
 abbrev pub mark : List ℕ
 mark = 72 ∷ 88 ∷ 77 ∷ []
 
--- "`HXM`, version 1 as 16 bits, node count and cell count as 32 bits, nodes of three float64 bit patterns, cells of eight 32-bit numbers.
--- Little-endian, nothing after."
+-- "`HXM`, version 1 as 16 bits, node count and cell count as 32 bits"
+abbrev pub headOf : ℕ → ℕ → ℕ → List ℕ
+headOf version nodes cells = mark ++ (bytes 2 version ++ (bytes 4 nodes ++ bytes 4 cells))
+
+-- "nodes of three float64 bit patterns"
+abbrev pub nodesPart : List ℕ → List ℕ
+nodesPart coords = allBytes 8 coords
+
+-- "cells of eight 32-bit numbers"
+abbrev pub cellsPart : List ℕ → List ℕ
+cellsPart corners = allBytes 4 corners
+
+-- "Little-endian, nothing after."
 abbrev pub fileOf : Mesh → List ℕ
-fileOf m =
-    mark ++ (bytes 2 1 ++ (bytes 4 (m .nodes) ++ (bytes 4 (m .cells) ++ (allBytes 8 (m .coords) ++ allBytes 4 (m .corners)))))
+fileOf m = headOf 1 (m .nodes) (m .cells) ++ (nodesPart (m .coords) ++ cellsPart (m .corners))
 
 -- the same layout, read
 abbrev pub headLength : ℕ
@@ -42,26 +80,29 @@ cellCount s = numberAt s 4 9
 
 -- where the cells begin, and where they end
 abbrev pub cellsFrom : List ℕ → ℕ
-cellsFrom s = headLength + 24 * nodeCount s
+cellsFrom s = headLength + nodeBytes * nodeCount s
 
 abbrev pub fileLength : List ℕ → ℕ
-fileLength s = cellsFrom s + 32 * cellCount s
+fileLength s = cellsFrom s + cellBytes * cellCount s
 
 unfoldable pub meshAt : List ℕ → Mesh
 meshAt s =
     record {
       nodes = nodeCount s;
       cells = cellCount s;
-      coords = numbersAt s 8 headLength (3 * nodeCount s);
-      corners = numbersAt s 4 (cellsFrom s) (8 * cellCount s);
+      coords = numbersAt s 8 headLength (nodeWords * nodeCount s);
+      corners = numbersAt s 4 (cellsFrom s) (cellNumbers * cellCount s);
     }
 
 abbrev pub marked : List ℕ → Bool
 marked s = all 3 (λ (i : ℕ). eqb (getD s i 0) (getD mark i 0))
 
 -- "cell by cell 9, 10"
+abbrev pub faultIn : Mesh → ℕ
+faultIn m = firstFault (m .nodes) cellNumbers (m .corners)
+
 unfoldable pub faultOf : List ℕ → ℕ
-faultOf s = firstFault (nodeCount s) 8 (numbersAt s 4 (cellsFrom s) (8 * cellCount s))
+faultOf s = faultIn (meshAt s)
 
 -- "File: 13 if under 13 bytes, 11, 12, 7, 13, then cell by cell 9, 10"; the last, 8, is the lent lists'
 unfoldable pub meshOf : List ℕ → Answer Mesh
@@ -69,19 +110,19 @@ meshOf s =
     cond (ltb (length s) headLength) (refused 13)
     (cond (not (marked s)) (refused 11)
     (cond (not (eqb (version s) 1)) (refused 12)
-    (cond (ltb 1024 (nodeCount s) || ltb 128 (cellCount s)) (refused 7)
+    (cond (ltb mostNodes (nodeCount s) || ltb mostCells (cellCount s)) (refused 7)
     (cond (not (eqb (length s) (fileLength s))) (refused 13)
     (cond (not (eqb (faultOf s) 0)) (refused (faultOf s))
     (answered (meshAt s)))))))
 
 -- a mesh within the limits: whole nodes of 64-bit patterns, whole cells, each of eight different nodes
 pub record Good (m : Mesh) : Type 0 where
-  pub nodesFew : m .nodes ≤ 1024
-  pub cellsFew : m .cells ≤ 128
-  pub coordsWhole : length (m .coords) ≡ 3 * m .nodes
-  pub cornersWhole : length (m .corners) ≡ 8 * m .cells
+  pub nodesFew : m .nodes ≤ mostNodes
+  pub cellsFew : m .cells ≤ mostCells
+  pub coordsWhole : length (m .coords) ≡ nodeWords * m .nodes
+  pub cornersWhole : length (m .corners) ≡ cellNumbers * m .cells
   pub patterns : Below (2 ^ 64) (m .coords)
-  pub sound : (c : ℕ) → c < m .cells → Sound (m .nodes) 8 (node 8 (m .corners) c)
+  pub sound : (c : ℕ) → c < m .cells → Sound (m .nodes) cellNumbers (node cellNumbers (m .corners) c)
 
 -- A file is accepted exactly when it is the file of a good mesh, and then as that mesh.
 pub record FilesOfMeshes : Type 0 where
@@ -89,5 +130,8 @@ pub record FilesOfMeshes : Type 0 where
   pub complete : (m : Mesh) → Good m → meshOf (fileOf m) ≡ answered m
 
 -- No good file is longer than 28,685 bytes, so that one byte more is enough to tell what a file is.
+abbrev pub longestFile : ℕ
+longestFile = headLength + nodeBytes * mostNodes + cellBytes * mostCells
+
 abbrev pub EnoughToTell : Type 0
-EnoughToTell = (s : List ℕ) → meshOf (take 28686 s) ≡ meshOf s
+EnoughToTell = (s : List ℕ) → meshOf (take (longestFile + 1) s) ≡ meshOf s

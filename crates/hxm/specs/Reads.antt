@@ -5,14 +5,14 @@ use mathlib.Core.Bool.{_||_, cond}
 use mathlib.Core.List.{List, [], _∷_}
 use lib.Dec.{ltb}
 use Rattle.answer.specs.Answer.{Answer, answered, refused, andThen, left, LosesNothing}
-use Rattle.hxm.specs.Format.{Mesh, meshOf}
+use Rattle.hxm.specs.Format.{nodeWords, cellNumbers, Mesh, meshOf}
 use Rattle.hxm.specs.declared.Reading.{Reading}
 use Rattle.hxm.specs.declared.Reading.the-variants.{Mesh as Counts, Refused}
 
 -- "last 8 (lent lists too short)", with room for so many coordinates and corners
 unfoldable pub meshInto : ℕ → ℕ → List ℕ → Answer Mesh
 meshInto coords corners s =
-    andThen (meshOf s) (λ (m : Mesh). cond (ltb coords (3 * m .nodes) || ltb corners (8 * m .cells)) (refused 8) (answered m))
+    andThen (meshOf s) (λ (m : Mesh). cond (ltb coords (nodeWords * m .nodes) || ltb corners (cellNumbers * m .cells)) (refused 8) (answered m))
 
 -- the number and the values of each answer
 abbrev pub told : Reading → Answer (List ℕ)

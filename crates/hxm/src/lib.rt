@@ -8,6 +8,25 @@ ghost use Rattle.faults.specs.Faults.{firstFault};
 ghost use Rattle.hxm.specs.Format.{marked, meshOf};
 ghost use Rattle.hxm.specs.Reads.{told, counts, meshInto, Reads};
 
+// How long the head is, the most nodes and cells that a mesh may have, and how many words a node and numbers a cell has.
+pub const HEAD_LENGTH: usize = 13;
+
+pub const MOST_NODES: u32 = 1024;
+
+pub const MOST_CELLS: u32 = 128;
+
+pub const NODE_WORDS: usize = 3;
+
+pub const CELL_NUMBERS: usize = 8;
+// So a node and a cell are so many bytes,
+const NODE_BYTES: usize = 8 * NODE_WORDS;
+
+const CELL_BYTES: usize = 4 * CELL_NUMBERS;
+// and a mesh has at most so many words and numbers.
+pub const MOST_WORDS: usize = NODE_WORDS * (MOST_NODES as usize);
+
+pub const MOST_NUMBERS: usize = CELL_NUMBERS * (MOST_CELLS as usize);
+
 // How many nodes and cells a file holds, or a refusal's number.
 pub enum Reading {
     Mesh(u32, u32),
@@ -110,7 +129,7 @@ fn fault_at(bytes: &[u8], at: usize, count: usize, n: u32) -> u32
 fn judge(bytes: &[u8]) -> Reading
     ensures { λ r. ⌜ told r ≡ counts (meshOf (now (bytes .entry))) ⌝ }
 {
-    if bytes.len() < 13 {
+    if bytes.len() < HEAD_LENGTH {
         return Reading::Refused(13);
     }
     let mark = marked(bytes);
@@ -123,14 +142,14 @@ fn judge(bytes: &[u8]) -> Reading
     if version != 1 {
         return Reading::Refused(12);
     }
-    if n > 1024 {
+    if n > MOST_NODES {
         return Reading::Refused(7);
     }
-    if c > 128 {
+    if c > MOST_CELLS {
         return Reading::Refused(7);
     }
-    let cells_from = 13 + 24 * (n as usize);
-    let end = cells_from + 32 * (c as usize);
+    let cells_from = HEAD_LENGTH + NODE_BYTES * (n as usize);
+    let end = cells_from + CELL_BYTES * (c as usize);
     if bytes.len() != end {
         return Reading::Refused(13);
     }
@@ -148,16 +167,21 @@ pub fn read(bytes: &[u8], nodes: &mut [u64], cells: &mut [u32]) -> Reading
 {
     match judge(bytes) {
         Reading::Mesh(n, c) => {
-            let coords = 3 * (n as usize);
-            let corners = 8 * (c as usize);
+            let coords = NODE_WORDS * (n as usize);
+            let corners = CELL_NUMBERS * (c as usize);
             if nodes.len() < coords {
                 return Reading::Refused(8);
             }
             if cells.len() < corners {
                 return Reading::Refused(8);
             }
-            put_words(bytes, 13, coords, &mut *nodes);
-            put_numbers(bytes, 13 + 24 * (n as usize), corners, &mut *cells);
+            put_words(bytes, HEAD_LENGTH, coords, &mut *nodes);
+            put_numbers(
+                bytes,
+                HEAD_LENGTH + NODE_BYTES * (n as usize),
+                corners,
+                &mut *cells,
+            );
             Reading::Mesh(n, c)
         }
         Reading::Refused(k) => Reading::Refused(k),
