@@ -1,4 +1,4 @@
-"""What each addition answers, from document 01: the reference that the archive is compared with.
+"""What each addition answers, from documents 01 and 02: the reference that the archive is compared with.
 
 A function gives (number, outputs): 0 and what a success writes, or the refusal's number and None.
 Python's floats are binary64 and each operation below is one IEEE operation, in the order of hex.rs
@@ -19,6 +19,7 @@ IDX2NODE = [0, 3, 2, 1, 0, 1, 5, 4, 1, 2, 6, 5, 2, 3, 7, 6, 3, 0, 4, 7, 4, 5, 6,
 FACE2NODE = [tuple(IDX2NODE[4 * f : 4 * f + 4]) for f in range(6)]
 
 MOST_NODES, MOST_CELLS, MOST_PROPOSALS, DEEPEST = 1024, 128, 256, 20
+MOST_COORDINATES, MOST_CELL_NUMBERS = 3072, 1024  # document 02, 1/12
 
 # Demand 3 on a case that passes 3, 4 and 5.
 NO_DEMAND, MUST_ACCEPT, MUST_REFUSE, EITHER = 0, 1, 2, 3
@@ -367,3 +368,30 @@ def hxm_read(data, node_room, cell_room):
     if node_room < 3 * nodes or cell_room < 8 * cells:
         return 8, None
     return 0, (nodes, cells, patterns, numbers)
+
+
+def little(value, width):
+    return value.to_bytes(width, "little")
+
+
+def hxm_write(coordinates, numbers, room):
+    """Document 02, 1/12. Coordinates are patterns of 64 bits. Outputs: the length, and the bytes of the file."""
+    if len(coordinates) > MOST_COORDINATES or len(numbers) > MOST_CELL_NUMBERS:
+        return 7, None
+    if len(coordinates) % 3 != 0 or len(numbers) % 8 != 0:
+        return 8, None
+    nodes, cells = len(coordinates) // 3, len(numbers) // 8
+    for cell in range(cells):
+        number = refused_cell(nodes, numbers[8 * cell : 8 * cell + 8])
+        if number != 0:
+            return number, None
+    length = 13 + 24 * nodes + 32 * cells
+    if room < length:
+        return 8, None
+    data = bytearray(b"HXM")
+    data += little(1, 2) + little(nodes, 4) + little(cells, 4)
+    for pattern in coordinates:
+        data += little(pattern, 8)
+    for number in numbers:
+        data += little(number, 4)
+    return 0, (length, bytes(data))

@@ -1,8 +1,8 @@
-"""The worked examples of document 01 on the additions, with the numbers as printed there: looked at on every run."""
+"""The worked examples of document 01 on the additions, with the numbers as printed there, and those of document 02's requests: looked at on every run."""
 
 import struct
 
-from answers import HEX_SIGN, Cell, Place, check, descendant, hxm_read, locate_checked, refine
+from answers import HEX_SIGN, Cell, Place, check, descendant, hxm_read, hxm_write, locate_checked, refine
 
 CHILDREN = """
 0 8 20 11 16 21 26 24
@@ -15,8 +15,21 @@ CHILDREN = """
 24 26 23 19 15 25 14 7
 """
 
+# One node whose coordinates are a signalling NaN, minus zero and plus zero, and no cell.
+ODD_NODE = [0x7FF0000000000001, 0x8000000000000000, 0]
+ODD_FILE = """
+48 58 4d 01 00 01 00 00 00 00 00 00 00
+01 00 00 00 00 00 f0 7f 00 00 00 00 00 00 00 80 00 00 00 00 00 00 00 00
+"""
+
 
 def hold():
+    hold_scope()
+    hold_writing()
+
+
+def hold_scope():
+    """Document 01."""
     cube = [2.0 * s for signs in HEX_SIGN for s in signs]
     checked = lambda corners, at, tolerance: check(Place(Cell(corners), at), tolerance)[0]
     with_first = lambda value: [value] + cube[1:]
@@ -43,3 +56,40 @@ def hold():
     number, (nodes, cells, _, numbers) = hxm_read(data, 24, 8)
     assert (number, nodes, cells) == (0, 8, 1)
     assert refine(nodes, numbers, 64) == (0, (27, [int(word) for word in CHILDREN.split()]))
+
+
+def hold_writing():
+    """Document 02, 1/12."""
+    assert hxm_write([], [], 13) == (0, (13, bytes.fromhex("48 58 4d 01 00 00 00 00 00 00 00 00 00")))
+    assert hxm_write([], [], 12) == (8, None)
+    assert hxm_write(ODD_NODE, [], 37) == (0, (37, bytes.fromhex(ODD_FILE)))
+    cell = list(range(8))
+    data = b"HXM" + struct.pack("<HII24Q8I", 1, 8, 1, *[0] * 24, *cell)
+    assert hxm_write([0] * 24, cell, 240) == (0, (237, data))
+    assert hxm_write([0] * 24, cell, 236) == (8, None)
+    number, (length, data) = hxm_write([0] * 3072, list(range(1024)), 28685)
+    assert (number, length, len(data)) == (0, 28685, 28685)
+
+    # what meets: both 7 before both 8, then the cells in their order, last the buffer
+    refused = lambda coordinates, numbers, room: hxm_write([0] * coordinates, numbers, room)[0]
+    twice = [*range(7), 0]
+    beyond = [*range(7), 8]
+    assert refused(3073, cell[:7], 0) == 7
+    assert refused(4, (cell * 129)[:1025], 0) == 7
+    assert refused(4, cell, 0) == 8
+    assert refused(24, cell[:7], 0) == 8
+    assert refused(0, cell, 0) == 9
+    assert refused(24, beyond, 0) == 9
+    assert refused(24, twice, 0) == 10
+    assert refused(24, twice + beyond, 0) == 10
+    assert refused(24, beyond + twice, 0) == 9
+    assert refused(24, [0, 0, 8, 3, 4, 5, 6, 7], 300) == 9
+    assert refused(24, cell, 0) == 8
+
+    # the two circles
+    nodes = [0x7FF0000000000001 + 0x0123456789ABCDEF * i & 0xFFFFFFFFFFFFFFFF for i in range(36)]
+    cells = [*cell, 1, 8, 9, 2, 5, 11, 10, 6]
+    number, (length, data) = hxm_write(nodes, cells, 365)
+    assert (number, length) == (0, 365)
+    assert hxm_read(data, 36, 16) == (0, (12, 2, tuple(nodes), tuple(cells)))
+    assert hxm_write(*hxm_read(data, 36, 16)[1][2:], 365) == (0, (365, data))
