@@ -7,7 +7,7 @@ import itertools
 import struct
 
 from answers import DEEPEST, FACE2NODE, HEX_SIGN, MOST_CELLS, MOST_NODES
-from records import DESCENDANT, HXM_READ, REFINE
+from records import DESCENDANT, HXM_READ, HXM_WRITE, REFINE
 
 TOP = 0xFFFFFFFF  # the largest number of 32 bits
 MOST_NUMBERS = 8 * MOST_CELLS
@@ -361,21 +361,27 @@ def random_patterns(rng, count):
     return list(struct.unpack(f"<{count}Q", rng.randbytes(8 * count)))
 
 
+def random_lists(rng):
+    """The two lists of a good mesh, most often a small one."""
+    draw = rng.random()
+    if draw < 0.02:
+        n, cells = rng.choice((0, 1, 5, 1024)), []
+    else:
+        n, cells = random_mesh(rng, rng.choice((1, 1, 2, 3)) if draw < 0.6 else random_most(rng))
+    numbers = [v for cell in cells for v in cell]
+    if draw < 0.6 and n > 40:  # few nodes, so that every byte can be taken
+        names = {v: i for i, v in enumerate(sorted(set(numbers)))}
+        n, numbers = len(names), [names[v] for v in numbers]
+    return random_patterns(rng, 3 * n), numbers
+
+
 def random_files(rng):
     while True:
-        draw = rng.random()
-        if draw < 0.02:
-            n, cells = rng.choice((0, 1, 5, 1024)), []
-        else:
-            n, cells = random_mesh(rng, rng.choice((1, 1, 2, 3)) if draw < 0.6 else random_most(rng))
-        numbers = [v for cell in cells for v in cell]
-        if draw < 0.6 and n > 40:  # few nodes, so that every byte can be taken
-            names = {v: i for i, v in enumerate(sorted(set(numbers)))}
-            n, numbers = len(names), [names[v] for v in numbers]
-        patterns = random_patterns(rng, 3 * n)
+        patterns, numbers = random_lists(rng)
+        n, cells = len(patterns) // 3, len(numbers) // 8
         data = written(patterns, numbers)
-        room = (3 * n, 8 * len(cells))
-        for lent in rooms(n, len(cells)):
+        room = (3 * n, 8 * cells)
+        for lent in rooms(n, cells):
             yield HXM_READ, "lent", (data, *lent)
         longer = (room[0] + rng.choice((0, 1, 30)), room[1] + rng.choice((0, 1, 80)))
         if len(data) <= 700 and rng.random() < 0.2:
@@ -413,3 +419,194 @@ def random_faults(rng, n, patterns, numbers):
     node_room = max(3 * n - rng.choice((1, 3, 3 * n)), 0) if has() else 3 * n + rng.choice((0, 1, 9))
     cell_room = max(len(numbers) - rng.choice((1, 8, len(numbers))), 0) if has() else len(numbers) + rng.choice((0, 1, 9))
     return data, node_room, cell_room
+
+
+# ---- writing a file ----
+
+
+NANS = (0x7FF4000000000000, 0x7FF7FFFFFFFFFFFF, 0x7FFFFFFFFFFFFFFF, 0xFFF0000000000001, 0xFFF4000000000000, 0xFFF8000000000000)
+PLAIN = (0x0102030405060708, 0xF7E6D5C4B3A29180, 0x000FFFFFFFFFFFFF, 0x0010000000000000, 0x7FEFFFFFFFFFFFFF, 0xFFF0000000000000)
+WORD_COUNTS = (*range(5), *range(3069, 3076))
+NUMBER_COUNTS = (0, 1, 7, 8, 9, 16, 1016, 1023, 1024, 1025, 1032)
+
+
+def needed(patterns, numbers):
+    """The bytes of a file with these lists, whole or not."""
+    return 13 + 8 * len(patterns) + 4 * len(numbers)
+
+
+def buffers(patterns, numbers):
+    """Lengths of the buffer: none, one short, just right, one more, and many more."""
+    right = needed(patterns, numbers)
+    return 0, right - 1, right, right + 1, right + 64
+
+
+def faulty(n):
+    """Two cells of twelve nodes or more with no fault, 9, 10, both in one cell, and both in two, either first."""
+    beyond, twice = {3: n}, {5: 4}
+    for faults in ({}, beyond, twice, beyond | twice, beyond | {13: TWO_CELLS[9]}, twice | {11: n}):
+        yield [faults.get(place, number) for place, number in enumerate(TWO_CELLS)]
+
+
+def boundary_writes():
+    yield from example_writes()
+    # lists of all lengths near the limits, whole or not
+    spread = [(8 * i + k) % 1023 for i in range(MOST_CELLS + 1) for k in TURNS[i % 48]]
+    for words, count in itertools.product(WORD_COUNTS, NUMBER_COUNTS):
+        patterns, numbers = some_patterns(words), spread[:count]
+        for room in buffers(patterns, numbers):
+            yield HXM_WRITE, "length", (patterns, numbers, room)
+    # over the limits or not, in zeros
+    for words, count in itertools.product((36, 3069, 3071, 3072, 3073, 3074, 3075), (0, 7, 8, 1023, 1024, 1025, 1032)):
+        for room in (0, needed(range(words), range(count))):
+            yield HXM_WRITE, "over", ([0] * words, [0] * count, room)
+    # every set of refusals that can meet
+    for words, count in itertools.product((36, 37, 3075, 3076), (16, 17, 1032, 1033)):
+        patterns = some_patterns(words)
+        for two in faulty(words // 3):
+            numbers = two + (TWO_CELLS * 65)[: count - 16]
+            short = needed(range(words // 3 * 3), range(count // 8 * 8)) - 1
+            for room in (0, short, needed(patterns, numbers), needed(patterns, numbers) + 64):
+                yield HXM_WRITE, "faults", (patterns, numbers, room)
+    # the lists end anywhere in a node or cell
+    for words, count in itertools.product(range(36, 39), range(16, 24)):
+        patterns = some_patterns(words)
+        for two in faulty(12):
+            numbers = two + WHOLE_CELL[: count - 16]
+            for room in (0, 364, needed(patterns, numbers)):
+                yield HXM_WRITE, "whole", (patterns, numbers, room)
+    # each place of two cells out of range, each pair of places alike
+    patterns = some_patterns(36)
+    for cell, k in itertools.product(range(2), range(8)):
+        for value in (12, 13, TOP):
+            numbers = list(TWO_CELLS)
+            numbers[8 * cell + k] = value
+            for room in (364, 365):
+                yield HXM_WRITE, "range", (patterns, numbers, room)
+        for j in range(8):
+            if j != k:
+                numbers = list(TWO_CELLS)
+                numbers[8 * cell + k] = numbers[8 * cell + j]
+                for room in (364, 365):
+                    yield HXM_WRITE, "twice", (patterns, numbers, room)
+    # 9 before 10 in one cell, the earlier cell before the later
+    for j, k in itertools.product(range(16), range(16)):
+        if j != k:
+            numbers = list(TWO_CELLS)
+            numbers[j] = 12
+            other = k - k % 8
+            numbers[k] = numbers[other + (k + 1) % 8]
+            for room in (364, 365):
+                yield HXM_WRITE, "order", (patterns, numbers, room)
+    # few nodes and a cell: those it names, the one behind them, the last of them eight times
+    for words in (0, 1, 2, 3, 4, 20, 21, 22, 23, 24, 25, 26, 27):
+        patterns, n = some_patterns(words), words // 3
+        for cell in (WHOLE_CELL, WHOLE_CELL[::-1], [0] * 8, [max(n - 1, 0)] * 8, [n] * 8, [TOP] * 8, [*range(1, 9)]):
+            for room in buffers(patterns, cell):
+                yield HXM_WRITE, "few", (patterns, cell, room)
+    # odd bits in each place of a node, alone and among others
+    for pattern in PATTERNS + NANS + PLAIN:
+        for place in range(3):
+            patterns = [0] * 3
+            patterns[place] = pattern
+            yield HXM_WRITE, "bits", (patterns, [], 37 + place)
+        for place in range(24):
+            patterns = some_patterns(24)
+            patterns[place] = pattern
+            yield HXM_WRITE, "bits", (patterns, WHOLE_CELL, 237 + place % 3)
+    # every length of the buffer
+    for patterns, numbers in (([], []), (some_patterns(3), []), (some_patterns(24), WHOLE_CELL)):
+        for room in range(needed(patterns, numbers) + 64):
+            yield HXM_WRITE, "room", (patterns, numbers, room)
+    # counts of one byte and of two, up to the limits
+    for n, c in itertools.product((8, 255, 256, 257, 1023, 1024), (0, 1, 2, 127, 128)):
+        patterns = some_patterns(3 * n)
+        numbers = [v for i in range(c) for v in turned(range(n - 8, n), TURNS[i % 48])]
+        for room in buffers(patterns, numbers)[1:]:
+            yield HXM_WRITE, "limit", (patterns, numbers, room)
+    # the longest file, and a fault in its first or last cell
+    patterns = some_patterns(3 * MOST_NODES)
+    full = [8 * i + k for i in range(MOST_CELLS) for k in TURNS[i % 48]]
+    for room in buffers(patterns, full):
+        yield HXM_WRITE, "full", (patterns, full, room)
+    for place, value in itertools.product((*range(8), *range(MOST_NUMBERS - 8, MOST_NUMBERS)), (MOST_NODES, None)):
+        numbers = list(full)
+        numbers[place] = numbers[place ^ 1] if value is None else value
+        for room in (28684, 28685):
+            yield HXM_WRITE, "full", (patterns, numbers, room)
+
+
+def example_writes():
+    """The examples of request 1/12, each refusal in its place, and which comes first where two meet."""
+    zeros = [0] * 24
+    odd = [0x7FF0000000000001, 1 << 63, 0]
+    twice, beyond = [*range(7), 0], [*range(7), 8]
+    for patterns, numbers, room in (
+        ([], [], 13),
+        ([], [], 12),
+        (odd, [], 37),
+        (odd, [], 38),
+        (zeros, WHOLE_CELL, 240),
+        (zeros, WHOLE_CELL, 237),
+        (zeros, WHOLE_CELL, 236),
+        (some_patterns(36), TWO_CELLS, 365),
+        (some_patterns(36), TWO_CELLS, 366),
+        ([0] * 3075, WHOLE_CELL, 28800),  # 7, the nodes
+        (zeros, WHOLE_CELL + [0] * 1024, 28800),  # 7, the cells
+        (zeros + [0], WHOLE_CELL, 300),  # 8, the nodes
+        (zeros + [0] * 2, WHOLE_CELL, 300),
+        (zeros, WHOLE_CELL + [0], 300),  # 8, the cells
+        (zeros, WHOLE_CELL[:7], 300),
+        (zeros, beyond, 300),  # 9
+        (zeros, twice, 300),  # 10
+        (some_patterns(36), TWO_CELLS, 364),  # 8, the buffer
+        ([0] * 3073, WHOLE_CELL[:7], 0),
+        ([0] * 4, WHOLE_CELL + [0] * 1017, 0),
+        ([0] * 4, WHOLE_CELL, 0),
+        ([0] * 4, WHOLE_CELL[:7], 300),
+        (zeros, beyond[1:], 300),
+        ([], WHOLE_CELL, 300),
+        (zeros, beyond, 0),
+        (zeros, twice, 0),
+        (zeros, twice + beyond, 400),
+        (zeros, beyond + twice, 400),
+        (zeros, [0, 0, 8, 3, 4, 5, 6, 7], 300),
+    ):
+        yield HXM_WRITE, "example", (patterns, numbers, room)
+
+
+def random_writes(rng):
+    while True:
+        patterns, numbers = random_lists(rng)
+        right = needed(patterns, numbers)
+        for room in buffers(patterns, numbers):
+            yield HXM_WRITE, "room", (patterns, numbers, room)
+        few = len(patterns) <= 120  # of a long list not so many
+        for _ in range((12 if few else 4) if numbers else 0):
+            yield HXM_WRITE, "cells", (patterns, spoiled(rng, len(patterns) // 3, numbers), right - rng.choice((0, 0, 1)))
+        for _ in range(20 if few else 6):
+            yield HXM_WRITE, "faults", random_write_faults(rng, patterns, numbers)
+
+
+def resized(rng, elements, length):
+    """The list cut, or with any node numbers behind it."""
+    return elements[: max(length, 0)] + [rng.randrange(MOST_NODES) for _ in range(length - len(elements))]
+
+
+def random_write_faults(rng, patterns, numbers):
+    """Two lists and a buffer with none, one or several of all faults; a node more or less, or a cell, is none by itself."""
+    likely = rng.choice((0.05, 0.2, 0.5))
+    has = lambda: rng.random() < likely
+    if has() and numbers:
+        numbers = spoiled(rng, len(patterns) // 3, numbers)
+    if has():
+        patterns = resized(rng, patterns, len(patterns) + rng.randint(-4, 4))
+    if has():
+        numbers = resized(rng, numbers, len(numbers) + rng.randint(-9, 9))
+    if has() and rng.random() < 0.2:
+        patterns = resized(rng, patterns, rng.choice((3070, 3072, 3073, 3074, 3075, 3080)))
+    if has() and rng.random() < 0.5:
+        numbers = resized(rng, numbers, rng.choice((1016, 1024, 1025, 1031, 1032, 1040)))
+    right = needed(patterns, numbers)
+    room = max(right - rng.choice((1, 1, 4, 8, 32, right)), 0) if has() else right + rng.choice((0, 0, 1, 9, 64))
+    return patterns, numbers, room

@@ -8,7 +8,7 @@ import struct
 
 import answers
 
-CHECK, LOCATE_CHECKED, CHECK_PROPOSALS, REFINE, DESCENDANT, HXM_READ = range(23, 29)
+CHECK, LOCATE_CHECKED, CHECK_PROPOSALS, REFINE, DESCENDANT, HXM_READ, HXM_WRITE = range(23, 30)
 NAMES = {
     "check": CHECK,
     "locate_checked": LOCATE_CHECKED,
@@ -16,12 +16,15 @@ NAMES = {
     "refine": REFINE,
     "descendant": DESCENDANT,
     "hxm_read": HXM_READ,
+    "hxm_write": HXM_WRITE,
 }
 
 STREAM_MARK = b"ISN2ND1\n"
 END = 0
 
 MOST_INPUT_WORDS, MOST_OUTPUT_WORDS = 400, 600
+# A writing is stored where the replay has room for it, and shows each byte of its file and one behind.
+MOST_WRITE_WORDS, MOST_WRITE_ROOM, MOST_WRITTEN = 255, 28800, 400
 NAN_WORD = 0x7FF8000000000000
 
 
@@ -39,6 +42,7 @@ def answer(function, arguments):
         REFINE: answers.refine,
         DESCENDANT: answers.descendant,
         HXM_READ: answers.hxm_read,
+        HXM_WRITE: answers.hxm_write,
     }[function]
     return *call(*arguments), answers.NO_DEMAND
 
@@ -88,12 +92,18 @@ def stream_record(function, arguments, answered):
         parts = [words32([len(path), corner]), words32(path)]
         if good:
             parts.append(words32(outputs))
-    else:
+    elif function == HXM_READ:
         data, node_room, cell_room = arguments
         parts = [words32([len(data), node_room, cell_room]), data]
         if good:
             nodes, cells, patterns, numbers = outputs
             parts += [words32([nodes, cells]), words64(patterns), words32(numbers)]
+    else:
+        patterns, numbers, room = arguments
+        parts = [words32([len(patterns), len(numbers), room]), words64(patterns), words32(numbers)]
+        if good:
+            length, data = outputs
+            parts += [words32([length]), data]
     body = b"".join(parts)
     return struct.pack("<BBBBI", function, number, demand, 0, len(body)) + body
 
@@ -113,7 +123,8 @@ def float_words(values):
 def sample_words(function, arguments, answered):
     """Input words and output words, or None where the case is too long for the sample.
 
-    Where a refused list is too long, its zero elements at the end are left out: the length word stays.
+    Where a refused list is too long, its zero elements at the end are left out: the length word stays. Of the writer's two lists they always are,
+    and a word for each says how many elements stand there.
     """
     number, outputs, _ = answered
     outs = []
@@ -137,10 +148,17 @@ def sample_words(function, arguments, answered):
         path, corner = arguments
         ins = [len(path), *path, corner]
         outs = [v & 0xFFFFFFFF for v in outputs] if number == 0 else []
-    else:
+    elif function == HXM_READ:
         data, node_room, cell_room = arguments
         ins = [len(data), *data, node_room, cell_room]
         outs = [outputs[0], outputs[1], *outputs[2], *outputs[3]] if number == 0 else []
+    else:
+        patterns, numbers, room = arguments
+        words, listed = without_zeros(patterns), without_zeros(numbers)
+        ins = [len(patterns), len(numbers), room, len(words), len(listed), *words, *listed]
+        outs = [outputs[0], *outputs[1]] if number == 0 else []
+        if len(ins) > MOST_WRITE_WORDS or room > MOST_WRITE_ROOM or len(outs) > 1 + MOST_WRITTEN:
+            return None
     if len(ins) > MOST_INPUT_WORDS or len(outs) > MOST_OUTPUT_WORDS:
         return None
     return ins, outs
@@ -154,6 +172,14 @@ def with_list(before, elements, after, number):
             while kept and not any(kept[-1]):
                 kept.pop()
     return before + [len(elements)] + [word for element in kept for word in element] + after
+
+
+def without_zeros(elements):
+    """The elements up to the last that is not zero."""
+    count = len(elements)
+    while count > 0 and elements[count - 1] == 0:
+        count -= 1
+    return elements[:count]
 
 
 def sample_record(function, number, words):

@@ -1,4 +1,4 @@
-"""The second program: cases with the answers of document 01, for the driver or as a stored sample.
+"""The second program: cases with the answers of documents 01 and 02, for the driver or as a stored sample.
 
     second.py --cases N --seed S     the driver's stream on standard output: for each function all boundary
                                      cases, then random ones until there are N
@@ -26,6 +26,7 @@ BOUNDARY = {
     "refine": meshes.boundary_refine,
     "descendant": meshes.boundary_descendant,
     "hxm_read": meshes.boundary_files,
+    "hxm_write": meshes.boundary_writes,
 }
 RANDOM = {
     "check": cells.random_check,
@@ -34,13 +35,14 @@ RANDOM = {
     "refine": meshes.random_refine,
     "descendant": meshes.random_descendant,
     "hxm_read": meshes.random_files,
+    "hxm_write": meshes.random_writes,
 }
 
 SAMPLE_SEED = "sample 1"
 # How many cases of a function a sample takes for each tag and number, and in all; how many are looked through.
-SAMPLE_EACH = {"check": 6, "locate_checked": 4, "check_proposals": 8, "refine": 8, "descendant": 6, "hxm_read": 4}
-SAMPLE_MOST = {"check": 215, "locate_checked": 195, "check_proposals": 45, "refine": 80, "descendant": 35, "hxm_read": 80}
-SAMPLE_FROM = {"check": 9000, "locate_checked": 6000, "check_proposals": 2000, "refine": 8000, "descendant": 12000, "hxm_read": 20000}
+SAMPLE_EACH = {"check": 6, "locate_checked": 4, "check_proposals": 8, "refine": 8, "descendant": 6, "hxm_read": 4, "hxm_write": 3}
+SAMPLE_MOST = {"check": 215, "locate_checked": 195, "check_proposals": 45, "refine": 80, "descendant": 35, "hxm_read": 80, "hxm_write": 80}
+SAMPLE_FROM = {"check": 9000, "locate_checked": 6000, "check_proposals": 2000, "refine": 8000, "descendant": 12000, "hxm_read": 20000, "hxm_write": 8000}
 
 
 def cases(name, count, seed):
