@@ -5,6 +5,8 @@
  * inputs as they were, outputs as the answer has them or untouched, marks everywhere else. Then both are compared, byte by byte,
  * with all NaNs as one value. A case with an empty list is called twice, the second time with null pointers.
  *
+ * What the archive writes as a file it reads again, and what it reads it writes again: a circle that does not close is a difference.
+ *
  * Exit status: 0, 1 when there is a difference, 2 when the stream is broken.
  */
 #include <stdarg.h>
@@ -146,12 +148,13 @@ static void *has_to(size_t buffer) {
 
 /* ---- the counts of a function ---- */
 
-enum { FUNCTIONS = 28, NUMBERS = 14, SHOWN = 3 };
+enum { FUNCTIONS = 29, NUMBERS = 14, SHOWN = 3 };
 enum { MUST_ACCEPT = 1, MUST_REFUSE = 2, EITHER = 3 };
 
 static struct function {
     const char *name;
     unsigned long cases, differences, contradictions, refused[NUMBERS], demands[4];
+    unsigned long closed, open; /* circles */
 } functions[FUNCTIONS + 1] = {
     {.name = "the end"},
     {.name = "isn_mat3_transpose"},
@@ -182,6 +185,7 @@ static struct function {
     {.name = "isn_refine"},
     {.name = "isn_descendant"},
     {.name = "isn_hxm_read"},
+    {.name = "isn_hxm_write"},
 };
 
 static void say(const struct function *f, const char *form, ...) {
@@ -486,11 +490,50 @@ static int call_descendant(const struct function *f, uint32_t number, uint32_t *
     return compare(f, *answered, number);
 }
 
+/* Whether the circles of a case have closed, with pointers and with null ones. */
+enum { CLOSED = 1, OPEN = 2 };
+static int circles;
+
+static int circle(int differs) {
+    circles |= differs ? OPEN : CLOSED;
+    return differs;
+}
+
+/* What the archive has read it writes again, from lists of just that length, as the same bytes. The reader's buffers are 0 to 3. */
+static int write_again(const struct function *f, const uint8_t *bytes, size_t size, const uint64_t *nodes, const uint32_t *cells,
+                       const uint32_t *counts, int null) {
+    size_t words = 3 * (size_t)counts[0], count = 8 * (size_t)counts[1];
+    uint64_t *nodes_again;
+    uint32_t *cells_again, *length, want = (uint32_t)size, answered;
+    uint8_t *out;
+    if (words > buffers[1].count || count > buffers[2].count) {
+        say(f, "counts %lu nodes and %lu cells, more than its lists hold", (unsigned long)counts[0], (unsigned long)counts[1]);
+        return circle(1);
+    }
+    nodes_again = lend("nodes to write again", 8, words);
+    cells_again = lend("cells to write again", 4, count);
+    out = lend("bytes written again", 1, size);
+    length = lend("length written again", 4, 1);
+    memcpy(nodes_again, nodes, 8 * words);
+    memcpy(cells_again, cells, 4 * count);
+    settle();
+    answered = isn_hxm_write(list(nodes_again, words, null), words, list(cells_again, count, null), count,
+                             list(out, size, null), size, length);
+    if (answered != 0) {
+        say(f, "isn_hxm_write answers %lu to what is read", (unsigned long)answered);
+        return circle(1);
+    }
+    memcpy(has_to(6), bytes, size);
+    memcpy(has_to(7), &want, sizeof want);
+    return circle(compare(f, 0, 0));
+}
+
 static int call_hxm_read(const struct function *f, uint32_t number, uint32_t *answered, int null) {
     size_t length = take32(), node_room = take32(), cell_room = take32();
     uint8_t *bytes = lend("bytes", 1, length);
     uint64_t *nodes = lend("nodes", 8, node_room);
     uint32_t *cells = lend("cells", 4, cell_room), *counts = lend("counts", 4, 2);
+    int differs;
     if (length != 0)
         memcpy(bytes, take(length), length);
     settle();
@@ -505,7 +548,62 @@ static int call_hxm_read(const struct function *f, uint32_t number, uint32_t *an
         take_words64(has_to(1), 3 * (size_t)had[0]);
         take_words32(has_to(2), 8 * (size_t)had[1]);
     }
-    return compare(f, *answered, number);
+    differs = compare(f, *answered, number);
+    if (*answered == 0)
+        differs |= write_again(f, bytes, length, nodes, cells, counts, null);
+    return differs;
+}
+
+/* What the archive has written it reads again, into lists of just that length, as the same lists. The writer's buffers are 0 to 3. */
+static int read_again(const struct function *f, const uint64_t *nodes, size_t words, const uint32_t *cells, size_t count,
+                      const uint8_t *out, size_t length, int null) {
+    uint8_t *bytes;
+    uint64_t *nodes_again;
+    uint32_t *cells_again, *counts, want[2] = {(uint32_t)(words / 3), (uint32_t)(count / 8)}, answered;
+    if (length > buffers[2].count) {
+        say(f, "tells the length %lu, more than its buffer holds", (unsigned long)length);
+        return circle(1);
+    }
+    bytes = lend("bytes to read again", 1, length);
+    nodes_again = lend("nodes read again", 8, words);
+    cells_again = lend("cells read again", 4, count);
+    counts = lend("counts read again", 4, 2);
+    memcpy(bytes, out, length);
+    settle();
+    answered = isn_hxm_read(list(bytes, length, null), length, list(nodes_again, words, null), words,
+                            list(cells_again, count, null), count, counts);
+    if (answered != 0) {
+        say(f, "isn_hxm_read answers %lu to what is written", (unsigned long)answered);
+        return circle(1);
+    }
+    memcpy(has_to(5), nodes, 8 * words);
+    memcpy(has_to(6), cells, 4 * count);
+    memcpy(has_to(7), want, sizeof want);
+    return circle(compare(f, 0, 0));
+}
+
+static int call_hxm_write(const struct function *f, uint32_t number, uint32_t *answered, int null) {
+    size_t words = take32(), count = take32(), room = take32();
+    uint64_t *nodes = lend("nodes", 8, words);
+    uint32_t *cells = lend("cells", 4, count), *length;
+    uint8_t *out = lend("out", 1, room);
+    int differs;
+    length = lend("length", 4, 1);
+    take_words64(nodes, words);
+    take_words32(cells, count);
+    settle();
+    *answered = isn_hxm_write(list(nodes, words, null), words, list(cells, count, null), count, list(out, room, null), room, length);
+    if (number == 0) {
+        uint32_t had = take32();
+        if (had > room)
+            broken("an answer that does not fit");
+        memcpy(has_to(3), &had, sizeof had);
+        memcpy(has_to(2), take(had), had);
+    }
+    differs = compare(f, *answered, number);
+    if (*answered == 0)
+        differs |= read_again(f, nodes, words, cells, count, out, *length, null);
+    return differs;
 }
 
 static int call(int function, uint32_t number, uint32_t *answered, int null) {
@@ -525,6 +623,8 @@ static int call(int function, uint32_t number, uint32_t *answered, int null) {
         return call_descendant(f, number, answered, null);
     case 28:
         return call_hxm_read(f, number, answered, null);
+    case 29:
+        return call_hxm_write(f, number, answered, null);
     default:
         *answered = call_carried(function, null);
         if (number == 0)
@@ -540,6 +640,7 @@ static void run(int function, uint32_t number, int demand, size_t length) {
     int differs;
     at = record, end = record + length;
     has_empty_list = 0;
+    circles = 0;
     differs = call(function, number, &answered, 0);
     if (at != end)
         broken("a record is too long");
@@ -547,6 +648,8 @@ static void run(int function, uint32_t number, int demand, size_t length) {
         at = record;
         differs |= call(function, number, &answered, 1);
     }
+    f->closed += circles == CLOSED;
+    f->open += circles >= OPEN;
     f->demands[demand]++;
     if ((demand == MUST_ACCEPT && answered == 6) || (demand == MUST_REFUSE && answered == 0)) {
         say(f, "answers %lu against demand 3", (unsigned long)answered);
@@ -572,6 +675,8 @@ static unsigned long report(void) {
         if (f->demands[MUST_ACCEPT] + f->demands[MUST_REFUSE] + f->demands[EITHER] != 0)
             printf("%-38s demand 3: must accept %lu, must refuse %lu, either %lu, %lu contradictions\n", "", f->demands[MUST_ACCEPT],
                    f->demands[MUST_REFUSE], f->demands[EITHER], f->contradictions);
+        if (f->closed + f->open != 0)
+            printf("%-38s circles: %lu closed, %lu open\n", "", f->closed, f->open);
         cases += f->cases, differences += f->differences;
     }
     printf("total %lu cases, %lu differences\n", cases, differences);
