@@ -5,14 +5,15 @@
     python3 oracle/second/for_replay.py RUST SECOND crates/replay/stdin crates/replay/stdout
 
 A record there has a header of four bytes: function, input words, outcome, output words. First come the records that are compared: those of the Rust,
-and the second program's of check and locate_checked. Behind four zero bytes come the meshes, paths and files, whose answers are printed.
+and the second program's of check and locate_checked. Behind four zero bytes come the meshes, paths, files and lists to write, whose answers are
+printed.
 """
 import struct
 import sys
 
-CHECK, LOCATE_CHECKED, REFINE, DESCENDANT, HXM_READ = 23, 24, 26, 27, 28
+CHECK, LOCATE_CHECKED, REFINE, DESCENDANT, HXM_READ, HXM_WRITE = 23, 24, 26, 27, 28, 29
 OLD = 7
-SHOWN = 60
+SHOWN, BYTES_SHOWN = 60, 420
 
 
 def left(values, room, shown):
@@ -43,7 +44,11 @@ def hxm_read(words, answers):
     return [size, node_room, cell_room] + list(struct.unpack(f"<{len(content) // 8}Q", content)), [], answers[:2], lists
 
 
-TOLD = {REFINE: refine, DESCENDANT: descendant, HXM_READ: hxm_read}
+def hxm_write(words, answers):
+    return words, [], answers[:1], left(answers[1:], words[2], BYTES_SHOWN)
+
+
+TOLD = {REFINE: refine, DESCENDANT: descendant, HXM_READ: hxm_read, HXM_WRITE: hxm_write}
 
 
 def record(function, outcome, inputs, outputs):

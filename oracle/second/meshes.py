@@ -553,6 +553,8 @@ def example_writes():
         (some_patterns(36), TWO_CELLS, 366),
         ([0] * 3075, WHOLE_CELL, 28800),  # 7, the nodes
         (zeros, WHOLE_CELL + [0] * 1024, 28800),  # 7, the cells
+        ([0] * 3072, [0] * 1025, 28800),
+        ([], [0] * 1032, 0),
         (zeros + [0], WHOLE_CELL, 300),  # 8, the nodes
         (zeros + [0] * 2, WHOLE_CELL, 300),
         (zeros, WHOLE_CELL + [0], 300),  # 8, the cells
@@ -560,6 +562,7 @@ def example_writes():
         (zeros, beyond, 300),  # 9
         (zeros, twice, 300),  # 10
         (some_patterns(36), TWO_CELLS, 364),  # 8, the buffer
+        ([0] * 3072, [], 24588),
         ([0] * 3073, WHOLE_CELL[:7], 0),
         ([0] * 4, WHOLE_CELL + [0] * 1017, 0),
         ([0] * 4, WHOLE_CELL, 0),
