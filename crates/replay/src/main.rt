@@ -1,10 +1,11 @@
 // Replays the stored answers of the Rust and of the second program (oracle/README.md, oracle/second/README.md). Standard input is records in two
-// parts, with four zero bytes between. Of the first part it prints how many are answered as they were. The second has meshes, paths and files: it
-// prints what is answered and left in the lent lists, and stdout holds the second program's own answers.
+// parts, with four zero bytes between. Of the first part it prints how many are answered as they were. The second has meshes, paths, files, and lists
+// to write as files: it prints what is answered and left in the lent lists, and stdout holds the second program's own answers.
 mod cases;
 
 use descendant::Descended;
 use hxm::Reading;
+use hxm_write::Writing;
 use libc::STDIN_FILENO;
 use libc::STDOUT_FILENO;
 use refine::Refined;
@@ -96,7 +97,7 @@ fn length_at(stored: &Record, i: usize, most: usize) -> usize
     least(word(stored, i) as usize, most)
 }
 
-// Reads a list of floats, or of whole numbers, from the words, from `from` on.
+// Reads a list of floats, of whole numbers or of bit patterns from the words, from `from` on.
 fn floats(stored: &Record, from: usize, out: &mut [f64])
     requires { ⌜ from + length (now out) ≤ 510 ⌝ }
     ensures { λ _. ⌜ length (now (out .exit)) ≡ length (now (out .entry)) ⌝ }
@@ -115,6 +116,17 @@ fn numbers(stored: &Record, from: usize, out: &mut [u32])
     let mut i = 0usize;
     while i < out.len() {
         out[i] = number_at(stored, from + i);
+        i += 1;
+    }
+}
+
+fn patterns(stored: &Record, from: usize, out: &mut [u64])
+    requires { ⌜ from + length (now out) ≤ 510 ⌝ }
+    ensures { λ _. ⌜ length (now (out .exit)) ≡ length (now (out .entry)) ⌝ }
+{
+    let mut i = 0usize;
+    while i < out.len() {
+        out[i] = word(stored, from + i);
         i += 1;
     }
 }
@@ -265,6 +277,48 @@ fn file(stored: &Record) {
     say_lists(nodes, least(node_room, 60), cells, least(cell_room, 60));
 }
 
+fn say_written(found: Writing) {
+    match found {
+        Writing::Length(size) => say(size as u64),
+        Writing::Refused(number) => say_refused(number),
+    }
+}
+
+// The first n bytes of a buffer.
+fn say_bytes(bytes: [u8; 28800], n: usize)
+    requires { ⌜ n ≤ 28800 ⌝ }
+{
+    let mut i = 0usize;
+    while i < n {
+        say(byte(bytes[i]) as u64);
+        i += 1;
+    }
+}
+
+// Writes a file, and tells what is then in the first bytes of the output.
+fn write_lists(nodes: [u64; 3080], words: usize, cells: [u32; 1040], count: usize, room: usize)
+    requires { ⌜ (words ≤ 3080) × (count ≤ 1040) × (room ≤ 28800) ⌝ }
+{
+    let mut out = [7u8; 28800];
+    say_written(hxm_write::write(&nodes[0..words], &cells[0..count], &mut out[0..room]));
+    say_bytes(out, least(room, 420));
+}
+
+// Two lists to write: the lengths of the nodes, of the cells and of the output, how many elements of the nodes and of the cells stand here, and these,
+// without zeros at the end of each.
+fn lists(stored: &Record) {
+    let words = length_at(stored, 0, 3080);
+    let count = length_at(stored, 1, 1040);
+    let room = length_at(stored, 2, 28800);
+    let nodes_listed = length_at(stored, 3, 250);
+    let cells_listed = length_at(stored, 4, 250);
+    let mut nodes = [0u64; 3080];
+    let mut cells = [0u32; 1040];
+    patterns(stored, 5, &mut nodes[0..nodes_listed]);
+    numbers(stored, 5 + nodes_listed, &mut cells[0..cells_listed]);
+    write_lists(nodes, words, cells, count, room);
+}
+
 // Whether a record is answered as it was: 1 or 0.
 fn agreeing(stored: &Record) -> u64
     ensures { λ r. ⌜ r ≤ 1 ⌝ }
@@ -298,6 +352,7 @@ fn tell() {
             26 => mesh(&stored),
             27 => path(&stored),
             28 => file(&stored),
+            29 => lists(&stored),
             _ => break,
         }
         io::write_all(STDOUT_FILENO, b"\n");
