@@ -31,6 +31,7 @@ ghost use Rattle.prism_volume.specs.Volume.{volumeAnswer as prismVolume};
 ghost use Rattle.prism_children.specs.Children.{children as prismChildren};
 ghost use Rattle.descendant.specs.Place.{descended};
 ghost use Rattle.hxm.specs.Reads.{counts as countsOf, coordsOf, cornersOf, meshInto};
+ghost use Rattle.hxm_write.specs.Writes.{lengthOf, fileInto};
 ghost use Rattle.refine.specs.Refine.{refined, childrenIn};
 
 fn wide(x: u32) -> usize
@@ -355,4 +356,18 @@ pub extern "C" fn isn_hxm_read(
         (now (cells .entry)) ⌝ }
 {
     mesh_answers::put_reading(hxm::read(bytes, nodes, cells), counts)
+}
+
+#[no_mangle]
+pub extern "C" fn isn_hxm_write(
+    nodes: &[u64],
+    cells: &[u32],
+    out: &mut [u8],
+    file_length: &mut u32,
+) -> u32
+    ensures answer { λ r. ⌜ Leaves (lengthOf (fileInto (length (now (out .entry))) (now (nodes .entry)) (now (cells .entry)))) r
+        (now (file_length .entry)) (now (file_length .exit)) ⌝ }
+    ensures output { λ _. ⌜ now (out .exit) ≡ left (fileInto (length (now (out .entry))) (now (nodes .entry)) (now (cells .entry))) (now (out .entry)) ⌝ }
+{
+    mesh_answers::put_writing(hxm_write::write(nodes, cells, out), file_length)
 }

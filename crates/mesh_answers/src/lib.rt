@@ -1,11 +1,13 @@
-// What the answer of a descendant, a refinement or a mesh file leaves in lent memory, for C: its values and 0,
+// What the answer of a descendant, a refinement or a mesh file, read or written, leaves in lent memory, for C: its values and 0,
 // or a refusal's number and nothing else (`Leaves`).
 use descendant::Descended;
 use hxm::Reading;
+use hxm_write::Writing;
 use refine::Refined;
 ghost use Rattle.answer.specs.Answer.{Leaves};
 ghost use Rattle.descendant.specs.Place.{told as descendedTold};
 ghost use Rattle.hxm.specs.Reads.{told as readingTold};
+ghost use Rattle.hxm_write.specs.Writes.{told as writingTold};
 ghost use Rattle.refine.specs.Refine.{told as refinedTold};
 
 pub fn put_descended(found: Descended, out: &mut [i32; 3]) -> u32
@@ -41,5 +43,17 @@ pub fn put_reading(found: Reading, counts: &mut [u32; 2]) -> u32
             0
         }
         Reading::Refused(n) => n,
+    }
+}
+
+pub fn put_writing(found: Writing, length: &mut u32) -> u32
+    ensures { λ r. ⌜ Leaves (writingTold found) r (now (length .entry)) (now (length .exit)) ⌝ }
+{
+    match found {
+        Writing::Length(bytes) => {
+            *length = bytes;
+            0
+        }
+        Writing::Refused(n) => n,
     }
 }

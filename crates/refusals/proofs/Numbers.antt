@@ -16,8 +16,9 @@ use Rattle.proposals.specs.Judgements.{judgements}
 use Rattle.descendant.specs.Place.{descended}
 use Rattle.hxm.specs.Format.{faultOf, meshOf}
 use Rattle.hxm.specs.Reads.{meshInto}
+use Rattle.hxm_write.specs.Writes as Write
 use Rattle.refine.specs.Refine.{refined}
-use Rattle.refusals.specs.Numbers.{fileNumbers, refineNumbers, RefusalsNumbered}
+use Rattle.refusals.specs.Numbers.{fileNumbers, writeNumbers, refineNumbers, RefusalsNumbered}
 
 -- ---- the first fault of some cells is 0, 9 or 10
 either : (P : ℕ → Type 0) (b : Bool) (x y : ℕ) → P x → P y → P (cond b x y)
@@ -56,6 +57,14 @@ file-refuses : (coords corners : ℕ) (s : List ℕ) → RefusesBy fileNumbers (
 unfolding meshInto
 file-refuses coords corners s = search (refuses-unless, refuses-then, mesh-refuses)
 
+written-refuses : (nodes cells : List ℕ) → RefusesBy writeNumbers (Write.fileFor nodes cells)
+unfolding Write.fileFor
+written-refuses nodes cells = search (refuses-unless, unless-faulty writeNumbers tt tt) depth 7
+
+writer-refuses : (room : ℕ) (nodes cells : List ℕ) → RefusesBy writeNumbers (Write.fileInto room nodes cells)
+unfolding Write.fileInto
+writer-refuses room nodes cells = search (refuses-unless, refuses-then, written-refuses)
+
 refined-refuses : (n : ℕ) (cells : List ℕ) (room : ℕ) → RefusesBy refineNumbers (refined n cells room)
 unfolding refined
 refined-refuses n cells room = search (refuses-unless, unless-faulty refineNumbers tt tt) depth 7
@@ -76,5 +85,6 @@ refusals-numbered =
       ofProposals = λ corners list room. search (refuses-unless, refuses-then);
       ofDescendant = descended-refuses;
       ofFile = file-refuses;
+      ofWriter = writer-refuses;
       ofRefinement = refined-refuses;
     }

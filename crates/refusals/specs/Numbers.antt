@@ -17,11 +17,16 @@ use Rattle.proposals.specs.Judgements.{judgements, zerosIn}
 use Rattle.proposals.specs.declared.Proposal.{Proposal}
 use Rattle.descendant.specs.Place.{descended}
 use Rattle.hxm.specs.Reads.{meshInto}
+use Rattle.hxm_write.specs.Writes.{fileInto}
 use Rattle.refine.specs.Refine.{refined}
 
 -- "File: 13 if under 13 bytes, 11, 12, 7, 13, then cell by cell 9, 10, last 8"
 abbrev pub fileNumbers : List ℕ
 fileNumbers = 13 ∷ 11 ∷ 12 ∷ 7 ∷ 9 ∷ 10 ∷ 8 ∷ []
+
+-- document 02, 1/12: "Refusals: 7 .., 8 .., then cell by cell 9, 10, last 8"
+abbrev pub writeNumbers : List ℕ
+writeNumbers = 7 ∷ 8 ∷ 9 ∷ 10 ∷ []
 
 -- "Refinement: 7 .., 8 .., then cell by cell 9 before 10"
 abbrev pub refineNumbers : List ℕ
@@ -42,4 +47,5 @@ pub record RefusalsNumbered : Type 0 where
   pub ofProposals : (corners : List Float) (list : List Proposal) (room : ℕ) → RefusesBy (7 ∷ 8 ∷ []) (zerosIn (judgements corners list room))
   pub ofDescendant : (path : List ℕ) (k : ℕ) → RefusesBy (7 ∷ 9 ∷ []) (descended path k)
   pub ofFile : (coords corners : ℕ) (s : List ℕ) → RefusesBy fileNumbers (meshInto coords corners s)
+  pub ofWriter : (room : ℕ) (nodes cells : List ℕ) → RefusesBy writeNumbers (fileInto room nodes cells)
   pub ofRefinement : (n : ℕ) (cells : List ℕ) (room : ℕ) → RefusesBy refineNumbers (refined n cells room)
