@@ -1,7 +1,9 @@
-// Document 01's worked examples that are run and not proved, and one for each refusal that a mesh meets. stdout holds what they have to print.
+// Worked examples that are run and not proved: document 01's, one for each refusal that a mesh meets, and document 02's. stdout holds what they have
+// to print.
 use cell::Located;
 use descendant::Descended;
 use hxm::Reading;
+use hxm_write::Writing;
 use libc::STDIN_FILENO;
 use libc::STDOUT_FILENO;
 use probe::Checked;
@@ -229,6 +231,71 @@ fn read_into(coords: usize, numbers: usize)
     end_line();
 }
 
+fn say_written(found: Writing) {
+    match found {
+        Writing::Length(bytes) => {
+            say(bytes);
+            end_line();
+        }
+        Writing::Refused(number) => say_refused(number),
+    }
+}
+
+// The next file, read and written again into a buffer with three bytes more.
+fn again() {
+    let mut bytes = [0u8; 237];
+    io::read_full(STDIN_FILENO, &mut bytes);
+    let mut nodes = [0u64; 24];
+    let mut cells = [0u32; 8];
+    let mut out = [7u8; 240];
+    io::write_all(STDOUT_FILENO, b"the sample file, read:");
+    say_read(hxm::read(&bytes, &mut nodes, &mut cells));
+    io::write_all(STDOUT_FILENO, b"and written again:");
+    say_written(hxm_write::write(&nodes, &cells, &mut out));
+    if check::same(&bytes, &out[0..237]) {
+        io::write_all(STDOUT_FILENO, b"the same bytes, and behind them:");
+    } else {
+        io::write_all(STDOUT_FILENO, b"other bytes, and behind them:");
+    }
+    say(out[237] as u32);
+    say(out[239] as u32);
+    end_line();
+}
+
+// Writes so many words and numbers, zeros behind the cell 0..6 and `last`, into a buffer; and what the refusal left at the buffer's ends.
+fn write(label: &[u8], words: usize, numbers: usize, last: u32, room: usize)
+    requires { ⌜ (words ≤ 3073) × (numbers ≤ 1025) × (room ≤ 240) ⌝ }
+{
+    let nodes = [0u64; 3073];
+    let mut cells = [0u32; 1025];
+    cells[1] = 1;
+    cells[2] = 2;
+    cells[3] = 3;
+    cells[4] = 4;
+    cells[5] = 5;
+    cells[6] = 6;
+    cells[7] = last;
+    let mut out = [7u8; 240];
+    io::write_all(STDOUT_FILENO, label);
+    say_written(hxm_write::write(&nodes[0..words], &cells[0..numbers], &mut out[0..room]));
+    io::write_all(STDOUT_FILENO, b"left in the buffer:");
+    say(out[0] as u32);
+    say(out[239] as u32);
+    end_line();
+}
+
+// Each place of the writer's order, where a later one applies too.
+fn unwritten() {
+    write(b"3,073 words, 7 numbers:", 3073, 7, 7, 240);
+    write(b"4 words, 1,025 numbers:", 4, 1025, 7, 240);
+    write(b"4 words, a cell:", 4, 8, 7, 240);
+    write(b"no node, 9 numbers:", 0, 9, 7, 240);
+    write(b"no node, a cell with a node twice:", 0, 8, 6, 240);
+    write(b"node 6 twice, no room:", 24, 8, 6, 0);
+    write(b"room for 236 bytes:", 24, 8, 7, 236);
+    write(b"room for 237 bytes:", 24, 8, 7, 237);
+}
+
 fn main() {
     located();
     shared_face();
@@ -249,5 +316,7 @@ fn main() {
     read_into(23, 9);
     read_into(25, 7);
     read_into(25, 9);
+    again();
+    unwritten();
     file(b"12 bytes: ");
 }

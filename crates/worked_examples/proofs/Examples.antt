@@ -4,9 +4,12 @@ use lib.Ieee.{add, sub, mul, div, neg, ofBits, le, lt, eq}
 use Rattle.hex_image.specs.Image.{imageAt}
 use Rattle.hex_iso_mask.specs.Cut.{maskOf}
 use Rattle.probe.specs.Check.{goodCorners, checked}
+use Rattle.numbers.specs.Little.{bytes, allBytes}
+use Rattle.faults.specs.Faults.{faultAt, firstTo}
 use Rattle.descendant.specs.Place.{sign, place, descended}
+use Rattle.hxm_write.specs.Writes.{fileFor, fileInto}
 use Rattle.worked_examples.specs.Examples.{ExamplesHold}
 
 pub examples-hold : ExamplesHold
-unfolding add sub mul div neg ofBits le lt eq maskOf imageAt goodCorners checked sign place descended
+unfolding add sub mul div neg ofBits le lt eq maskOf imageAt goodCorners checked sign place descended bytes allBytes faultAt firstTo fileFor fileInto
 examples-hold = refl

@@ -1,15 +1,16 @@
--- The worked examples of document 01 that are marked P, each on the definition that the contracts cite. Definitions and the claim only.
+-- The worked examples of document 01 that are marked P, and those of document 02's requests, each on the definition that the contracts cite.
+-- Definitions and the claim only.
 use Prim.Native.Nat.{ℕ}
 use mathlib.Core.Path.{_≡_}
 use mathlib.Core.Bool.{cond}
-use mathlib.Core.List.{List, [], _∷_, map}
+use mathlib.Core.List.{List, [], _∷_, _++_, map}
 use lib.Dec.{eqb}
 use lib.Ieee.{Float, binary64, ofBits}
 use lib.IntN.{ℤ, pos, negsuc}
 use lib.ListN.{set}
 use Rattle.numbers.specs.Rule.{tabulate, grid}
 use Rattle.binary64.specs.Binary64.{f0, f1, m1}
-use Rattle.answer.specs.Answer.{Answer, answered, refused}
+use Rattle.answer.specs.Answer.{Answer, answered, refused, left}
 use Rattle.hex.specs.Cube.{upper}
 use Rattle.hex_shape.specs.Shape as Hex
 use Rattle.prism_shape.specs.Shape as Prism
@@ -17,22 +18,33 @@ use Rattle.hex_iso_mask.specs.Cut.{isoMask}
 use Rattle.hex_iso_position.specs.Position.{isoPosition}
 use Rattle.probe.specs.Check.{checked}
 use Rattle.descendant.specs.Place.{descended}
+use Rattle.hxm_write.specs.Writes.{fileInto, lengthOf}
 
--- what an entry answers: floats, a whole number, a place in whole numbers, or an acceptance
+-- what an entry answers: floats, a whole number, a place in whole numbers, an acceptance, or the bytes of a file; or what a lent buffer holds then
 pub data Said : Type 0 where
   floats : Answer (List Float) → Said
   number : Answer ℕ → Said
   place : Answer (List ℤ) → Said
   verdict : Answer (Unit {0}) → Said
+  file : Answer (List ℕ) → Said
+  buffer : List ℕ → Said
 
--- the paper's number, what the definition gives, and what the paper says
+-- which example it is: the P number of document 01, or the number of document 02's request
+pub data Source : Type 0 where
+  P : ℕ → Source
+  request : ℕ → Source
+
+-- what the definition gives, and what the paper says
 pub record Example : Type 0 where
-  pub p : ℕ
+  pub source : Source
   pub found : Said
   pub paper : Said
 
 abbrev example : ℕ → Said → Said → Example
-example n a b = record { p = n; found = a; paper = b }
+example n a b = record { source = P n; found = a; paper = b }
+
+abbrev requested : ℕ → Said → Said → Example
+requested n a b = record { source = request n; found = a; paper = b }
 
 -- one at place k of n, plus zero elsewhere
 abbrev oneAt : ℕ → ℕ → List Float
@@ -80,6 +92,23 @@ at x = x ∷ f0 ∷ f0 ∷ []
 abbrev accepted : Said
 accepted = verdict (answered tt)
 
+-- `n` numbers, all the same
+abbrev many : ℕ → ℕ → List ℕ
+many n x = tabulate n (λ (k : ℕ). x)
+
+-- a signalling NaN, minus zero, zero
+abbrev oddNode : List ℕ
+oddNode = 0x7ff0_0000_0000_0001 ∷ 0x8000_0000_0000_0000 ∷ 0 ∷ []
+
+-- eight nodes at zero and the cell 0..7: in a buffer of so many bytes, and the bytes of its file, which is crates/hexkids/stdin
+abbrev sampleInto : ℕ → Answer (List ℕ)
+sampleInto room = fileInto room (many 24 0) (tabulate 8 (λ (k : ℕ). k))
+
+abbrev sample : List ℕ
+sample =
+    0x48 ∷ 0x58 ∷ 0x4d ∷ 1 ∷ 0 ∷ 8 ∷ 0 ∷ 0 ∷ 0 ∷ 1 ∷ 0 ∷ 0 ∷ 0 ∷ many 192 0
+    ++ (0 ∷ 0 ∷ 0 ∷ 0 ∷ 1 ∷ 0 ∷ 0 ∷ 0 ∷ 2 ∷ 0 ∷ 0 ∷ 0 ∷ 3 ∷ 0 ∷ 0 ∷ 0 ∷ 4 ∷ 0 ∷ 0 ∷ 0 ∷ 5 ∷ 0 ∷ 0 ∷ 0 ∷ 6 ∷ 0 ∷ 0 ∷ 0 ∷ 7 ∷ 0 ∷ 0 ∷ 0 ∷ [])
+
 abbrev pub examples : List Example
 examples =
     -- "P1 Hex shape at (1,1,1): 1 at node 6, +0 elsewhere. P2 Prism at (0,0,1): 1 at node 3."
@@ -103,6 +132,16 @@ examples =
     -- "P12 Path (6), corner 0: (0,0,0). Path empty, corner 1: (1,-1,-1)."
     ∷ example 12 (place (descended (6 ∷ []) 0)) (place (answered (pos 0 ∷ pos 0 ∷ pos 0 ∷ [])))
     ∷ example 12 (place (descended [] 1)) (place (answered (pos 1 ∷ negsuc 0 ∷ negsuc 0 ∷ [])))
+    -- 1/12: no node and no cell are a file of 13 bytes; in room for 12 it is refused by 8
+    ∷ requested 1 (file (fileInto 13 [] [])) (file (answered (0x48 ∷ 0x58 ∷ 0x4d ∷ 1 ∷ many 9 0)))
+    ∷ requested 1 (file (fileInto 12 [] [])) (file (refused 8))
+    -- one node, each float by its bits
+    ∷ requested 1 (file (fileInto 37 oddNode []))
+    (file (answered (0x48 ∷ 0x58 ∷ 0x4d ∷ 1 ∷ 0 ∷ 1 ∷ many 7 0 ++ (1 ∷ many 5 0 ++ (0xf0 ∷ 0x7f ∷ many 7 0 ++ (0x80 ∷ many 8 0))))))
+    -- one cell into 240 bytes that held 7: its length, and the last three bytes are as they were; into 236 bytes
+    ∷ requested 1 (number (lengthOf (sampleInto 240))) (number (answered 237))
+    ∷ requested 1 (buffer (left (sampleInto 240) (many 240 7))) (buffer (sample ++ many 3 7))
+    ∷ requested 1 (file (sampleInto 236)) (file (refused 8))
     ∷ []
 
 -- "The P examples are one list with a single proved claim on the definitions"
