@@ -28,6 +28,10 @@
 /* How many numbers isn_refine writes for each cell: eight children of eight nodes. */
 #define ISN_REFINED_NUMBERS 64
 
+/* The length of the longest mesh file, so that isn_hxm_write has room for every mesh: 13 bytes, 24 for each of 1,024 nodes and 32 for
+ * each of 128 cells. */
+#define ISN_LONGEST_FILE 28685
+
 #ifdef __cplusplus
 extern "C" {
 #endif
@@ -71,7 +75,7 @@ static inline const char *isn_refusal_text(uint32_t number) {
     case ISN_REFUSED_LIMIT:
         return "over a limit: 1,024 nodes, 128 cells, 256 proposals, a path of 20 octants; or not 1 to 16 quadrature points in a list";
     case ISN_REFUSED_LENGTH:
-        return "a list is not whole (8 numbers a cell, 2 floats a line point, 3 a triangle point), or an output is too short";
+        return "a list is not whole (3 words a node, 8 numbers a cell, 2 floats a line point, 3 a triangle point), or an output is too short";
     case ISN_REFUSED_RANGE:
         return "a number is out of range: a node not below the node count, an octant or corner above 7, "
                "a quadrature point not in its list, a sign index above 255";
@@ -192,6 +196,14 @@ uint32_t isn_descendant(const uint32_t *path, size_t path_len, uint32_t corner, 
  * nodes or 128 cells; 13 the length is not what the counts say; then cell by cell 9 and 10 as in isn_refine; 8 a lent list is too short. */
 uint32_t isn_hxm_read(const uint8_t *bytes, size_t bytes_len, uint64_t *nodes, size_t nodes_len, uint32_t *cells, size_t cells_len,
                       uint32_t counts[2]);
+
+/* Writes a mesh file, HXM version 1: out = the file of the nodes, the bit patterns of three doubles each, and of the cells, eight numbers each;
+ * length = its length in bytes; the rest of out stays as it was. The lists own the counts, and nobody states one: there are n = nodes_len / 3 nodes
+ * and c = cells_len / 8 cells, and the file has 13 + 24 n + 32 c bytes. From it isn_hxm_read gives both lists back, each float by its bits.
+ * Refusals: 7 the node list holds more than 3,072 words, or the cell list more than 1,024 numbers; 8 the node list is not whole nodes, or the cell
+ * list not whole cells; then cell by cell 9 a node number is not below n, 10 a node stands twice in one cell; 8 out is shorter than the file. */
+uint32_t isn_hxm_write(const uint64_t *nodes, size_t nodes_len, const uint32_t *cells, size_t cells_len, uint8_t *out, size_t out_len,
+                       uint32_t length[1]);
 
 /* Prism. A place is r >= 0, s >= 0, r + s <= 1 in the triangle, t in [0,1] upward. */
 

@@ -16,13 +16,18 @@ static void size(const char *name, int value, uint32_t there, uint32_t off) {
 int main(void) {
     static const double floats[24 + 2 * ISN_MAX_POINTS + 2];
     static const isn_proposal proposals[ISN_MAX_PROPOSALS + 1];
-    static const uint32_t zeros[8 * ISN_MAX_CELLS + 8], cell[8] = {0, 1, 2, 3, 4, 5, 6, 7};
+    static const uint32_t zeros[8 * ISN_MAX_CELLS + 8];
+    static const uint64_t words[3 * ISN_MAX_NODES];
+    static uint32_t cells[8 * ISN_MAX_CELLS];
+    static uint8_t file[ISN_LONGEST_FILE];
     uint32_t out[ISN_REFINED_NUMBERS], n;
     int32_t place[3];
     double volume;
     for (n = 0; n < 256; n++)
         word(n);
     word(UINT32_MAX);
+    for (n = 0; n < 8 * ISN_MAX_CELLS; n++)
+        cells[n] = n;
     size("ISN_MAX_NODES", ISN_MAX_NODES, isn_refine(ISN_MAX_NODES, NULL, 0, NULL, 0, &n), isn_refine(ISN_MAX_NODES + 1, NULL, 0, NULL, 0, &n));
     size("ISN_MAX_CELLS", ISN_MAX_CELLS, isn_refine(1, zeros, 8 * ISN_MAX_CELLS, NULL, 0, &n),
          isn_refine(1, zeros, 8 * ISN_MAX_CELLS + 8, NULL, 0, &n));
@@ -31,7 +36,9 @@ int main(void) {
     size("ISN_MAX_DEPTH", ISN_MAX_DEPTH, isn_descendant(zeros, ISN_MAX_DEPTH, 0, place), isn_descendant(zeros, ISN_MAX_DEPTH + 1, 0, place));
     size("ISN_MAX_POINTS", ISN_MAX_POINTS, isn_hex_volume(floats, floats + 24, 2 * ISN_MAX_POINTS, &volume),
          isn_hex_volume(floats, floats + 24, 2 * ISN_MAX_POINTS + 2, &volume));
-    size("ISN_REFINED_NUMBERS", ISN_REFINED_NUMBERS, isn_refine(8, cell, 8, out, ISN_REFINED_NUMBERS, &n),
-         isn_refine(8, cell, 8, out, ISN_REFINED_NUMBERS - 1, &n));
+    size("ISN_REFINED_NUMBERS", ISN_REFINED_NUMBERS, isn_refine(8, cells, 8, out, ISN_REFINED_NUMBERS, &n),
+         isn_refine(8, cells, 8, out, ISN_REFINED_NUMBERS - 1, &n));
+    size("ISN_LONGEST_FILE", ISN_LONGEST_FILE, isn_hxm_write(words, 3 * ISN_MAX_NODES, cells, 8 * ISN_MAX_CELLS, file, ISN_LONGEST_FILE, &n),
+         isn_hxm_write(words, 3 * ISN_MAX_NODES, cells, 8 * ISN_MAX_CELLS, file, ISN_LONGEST_FILE - 1, &n));
     return 0;
 }

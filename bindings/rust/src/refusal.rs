@@ -52,7 +52,7 @@ refusals! {
     Coordinate = 5, "a coordinate of the proposed place is not in [-1,1], or is NaN";
     TooFar = 6, "the image of the place is further from the probe than the tolerance on some axis";
     Limit = 7, "over a limit: 1,024 nodes, 128 cells, 256 proposals, a path of 20 octants; or not 1 to 16 quadrature points in a list";
-    Length = 8, "a list is not whole (8 numbers a cell, 2 floats a line point, 3 a triangle point), or an output is too short";
+    Length = 8, "a list is not whole (3 words a node, 8 numbers a cell, 2 floats a line point, 3 a triangle point), or an output is too short";
     Range = 9, "a number is out of range: a node not below the node count, an octant or corner above 7, \
         a quadrature point not in its list, a sign index above 255";
     Twice = 10, "a node stands twice in one cell";
