@@ -131,4 +131,13 @@ unsafe extern "C" {
         cells_len: usize,
         counts: &mut [u32; 2],
     ) -> u32;
+    pub fn isn_hxm_write(
+        nodes: *const u64,
+        nodes_len: usize,
+        cells: *const u32,
+        cells_len: usize,
+        out: *mut u8,
+        out_len: usize,
+        length: &mut u32,
+    ) -> u32;
 }

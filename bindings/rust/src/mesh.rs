@@ -85,3 +85,39 @@ pub fn read(bytes: &[u8], nodes: &mut [u64], cells: &mut [u32]) -> Result<Counts
     });
     counts.map(|[nodes, cells]| Counts { nodes, cells })
 }
+
+/// Writes the mesh file of nodes, three float64 bit patterns each, and cells, eight node numbers
+/// each, and answers its length: 13 bytes, 24 a node and 32 a cell. The lists own the counts, and
+/// nobody states one. What `out` holds behind the file stays. [`read`] gives both lists back.
+///
+/// ```
+/// use isnemgul::{Refusal, hex, mesh};
+/// let nodes: Vec<u64> = hex::SIGNS.as_flattened().iter().map(|x| x.to_bits()).collect();
+/// let cells = [0, 1, 2, 3, 4, 5, 6, 7];
+/// let mut file = [0; 300];
+/// let length = mesh::write(&nodes, &cells, &mut file)? as usize;
+/// assert_eq!(length, 13 + 24 * 8 + 32);
+///
+/// let (mut same_nodes, mut same_cells) = ([0; 24], [0; 8]);
+/// let counts = mesh::read(&file[..length], &mut same_nodes, &mut same_cells)?;
+/// assert_eq!((counts.nodes, counts.cells), (8, 1));
+/// assert_eq!((&same_nodes[..], same_cells), (&nodes[..], cells));
+///
+/// assert_eq!(mesh::write(&nodes[1..], &cells, &mut file), Err(Refusal::Length));
+/// # Ok::<(), Refusal>(())
+/// ```
+///
+/// # Errors
+///
+/// [`Limit`](Refusal::Limit) over 3,072 words of nodes or 1,024 numbers of cells,
+/// [`Length`](Refusal::Length) the node list, then the cell list, is not whole, then cell by cell
+/// [`Range`](Refusal::Range) a node is not below the number of nodes, [`Twice`](Refusal::Twice) a
+/// node stands twice, last `Length` the output is shorter than the file.
+pub fn write(nodes: &[u64], cells: &[u32], out: &mut [u8]) -> Result<u32, Refusal> {
+    let (words, numbers) = ((nodes.as_ptr(), nodes.len()), (cells.as_ptr(), cells.len()));
+    let (file, room) = (out.as_mut_ptr(), out.len());
+    // SAFETY: each list is one slice, lent for the call, and `out` to it alone.
+    answer(0, |length| unsafe {
+        isn_hxm_write(words.0, words.1, numbers.0, numbers.1, file, room, length)
+    })
+}

@@ -161,4 +161,19 @@ fn files() {
     assert_eq!(mesh::read(&file, &mut nodes, &mut cells), Ok(Counts { nodes: 8, cells: 1 }));
     assert_eq!((&nodes[..24], nodes[24]), (&patterns[..], 77));
     assert_eq!(cells, [7, 6, 5, 4, 3, 2, 1, 0, 77]);
+    let mut out = [77; 240];
+    assert_eq!(mesh::write(&nodes[..24], &cells[..8], &mut out), Ok(237));
+    assert_eq!((&out[..237], &out[237..]), (&file[..], &[77; 3][..]));
+}
+
+/// The counts are those of the lists.
+#[test]
+fn small_files() {
+    let mut out = [77; 38];
+    assert_eq!(mesh::write(&[], &[], &mut out), Ok(13));
+    assert_eq!((&out[..13], &out[13..]), (&b"HXM\x01\0\0\0\0\0\0\0\0\0"[..], &[77; 25][..]));
+    assert_eq!(mesh::write(&[0x7ff0_0000_0000_0001, 1 << 63, 0], &[], &mut out), Ok(37));
+    let head = b"HXM\x01\0\x01\0\0\0\0\0\0\0";
+    let node = b"\x01\0\0\0\0\0\xf0\x7f\0\0\0\0\0\0\0\x80\0\0\0\0\0\0\0\0";
+    assert_eq!(out[..], [&head[..], node, &[77]].concat());
 }

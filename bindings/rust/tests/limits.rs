@@ -3,7 +3,7 @@
 
 use isnemgul::hex::{self, Proposal, SIGNS};
 use isnemgul::mesh::{self, Counts};
-use isnemgul::prism;
+use isnemgul::{Refusal, prism};
 
 fn boxed<T: Clone>(list: &[T]) -> Box<[T]> {
     list.into()
@@ -12,6 +12,19 @@ fn boxed<T: Clone>(list: &[T]) -> Box<[T]> {
 /// 1,024 nodes, and 128 cells that share nothing.
 fn cells() -> Box<[u32]> {
     (0..1024).collect()
+}
+
+/// Three words for each of the nodes, all different.
+fn coordinates() -> Box<[u64]> {
+    (0..3072u64).map(|i| i.wrapping_mul(0x0123_4567_89ab_cdef)).collect()
+}
+
+/// The file of these nodes and cells.
+fn full_file() -> Box<[u8]> {
+    let head = b"HXM\x01\0\0\x04\0\0\x80\0\0\0".iter().copied();
+    let (nodes, cells) = (coordinates(), cells());
+    let words = nodes.iter().flat_map(|word| word.to_le_bytes());
+    head.chain(words).chain(cells.iter().flat_map(|node| node.to_le_bytes())).collect()
 }
 
 #[test]
@@ -54,18 +67,44 @@ fn descendant() {
 /// The full file, and every shorter one.
 #[test]
 fn read() {
-    let coordinates: Vec<u64> =
-        (0..3072u64).map(|i| i.wrapping_mul(0x0123_4567_89ab_cdef)).collect();
-    let head = b"HXM\x01\0\0\x04\0\0\x80\0\0\0".iter().copied();
-    let words = coordinates.iter().flat_map(|word| word.to_le_bytes());
-    let file: Box<[u8]> =
-        head.chain(words).chain(cells().iter().flat_map(|node| node.to_le_bytes())).collect();
+    let file = full_file();
     assert_eq!(file.len(), 28_685);
     let (mut nodes, mut numbers) = (boxed(&[0; 3072]), boxed(&[0; 1024]));
     let counts = mesh::read(&file, &mut nodes, &mut numbers);
     assert_eq!(counts, Ok(Counts { nodes: 1024, cells: 128 }));
-    assert_eq!((&nodes[..], &numbers[..]), (&coordinates[..], &cells()[..]));
+    assert_eq!((nodes, numbers), (coordinates(), cells()));
     for length in (0..file.len()).filter(|length| *length < 40 || length % 997 == 0) {
         assert!(mesh::read(&boxed(&file[..length]), &mut [], &mut []).is_err());
+    }
+}
+
+/// The full mesh into a buffer of its file's length, into one that is a byte short, and with one
+/// word or number more.
+#[test]
+fn write() {
+    let (nodes, numbers) = (coordinates(), cells());
+    let mut out = boxed(&[77; 28_684]);
+    assert_eq!(mesh::write(&nodes, &numbers, &mut out), Err(Refusal::Length));
+    let (more_nodes, more_numbers) = (boxed(&[0; 3073]), boxed(&[0; 1025]));
+    assert_eq!(mesh::write(&more_nodes, &numbers, &mut out), Err(Refusal::Limit));
+    assert_eq!(mesh::write(&nodes, &more_numbers, &mut out), Err(Refusal::Limit));
+    assert_eq!(out, boxed(&[77; 28_684]));
+    let mut out = boxed(&[77; 28_685]);
+    assert_eq!(mesh::write(&nodes, &numbers, &mut out), Ok(28_685));
+    assert_eq!(out, full_file());
+}
+
+/// What is written is read back: nodes alone, and every number of cells with their nodes.
+#[test]
+fn write_and_read() {
+    let nodes_alone = (0..=1024).filter(|n| *n < 40 || n % 31 == 1).map(|n| (n, 0));
+    for (n, c) in nodes_alone.chain((1..=128).map(|c| (8 * c, c))) {
+        let (nodes, numbers) = (boxed(&coordinates()[..3 * n]), boxed(&cells()[..8 * c]));
+        let mut file = boxed(&vec![77; 13 + 24 * n + 32 * c]);
+        assert_eq!(mesh::write(&nodes, &numbers, &mut file), Ok(file.len() as u32));
+        let (mut same_nodes, mut same_numbers) = (boxed(&vec![0; 3 * n]), boxed(&vec![0; 8 * c]));
+        let counts = mesh::read(&file, &mut same_nodes, &mut same_numbers);
+        assert_eq!(counts, Ok(Counts { nodes: n as u32, cells: c as u32 }));
+        assert_eq!((same_nodes, same_numbers), (nodes, numbers));
     }
 }

@@ -10,6 +10,13 @@ use Refusal::*;
 
 const CELL: [u32; 8] = [0, 1, 2, 3, 4, 5, 6, 7];
 
+/// Two cells, edited.
+fn two_cells(edit: fn(&mut [u32])) -> Vec<u32> {
+    let mut cells = [CELL, CELL].concat();
+    edit(&mut cells);
+    cells
+}
+
 /// The words of each number in docs/REFUSALS.md. `make words` holds that page to the header.
 fn page() -> BTreeMap<u32, &'static str> {
     let row = |line: &'static str| {
@@ -128,20 +135,15 @@ fn iso() {
 
 #[test]
 fn refine() {
-    let cells = |edit: fn(&mut [u32])| {
-        let mut cells = [CELL, CELL].concat();
-        edit(&mut cells);
-        cells
-    };
     let many = CELL.repeat(129);
     let cases: [(u32, Vec<u32>, usize, Refusal); 8] = [
         (1025, vec![9; 1025], 0, Limit),
         (1024, many[..1025].to_vec(), 0, Limit),
         (8, vec![9; 7], 0, Length),
         (8, vec![9; 8], 63, Length),
-        (8, cells(|c| c[3] = 8), 128, Range),
-        (8, cells(|c| (c[2], c[15]) = (c[1], 8)), 128, Twice),
-        (8, cells(|c| (c[8], c[9], c[15]) = (0, 0, 8)), 128, Range),
+        (8, two_cells(|c| c[3] = 8), 128, Range),
+        (8, two_cells(|c| (c[2], c[15]) = (c[1], 8)), 128, Twice),
+        (8, two_cells(|c| (c[8], c[9], c[15]) = (0, 0, 8)), 128, Range),
         (0, CELL.to_vec(), 64, Range),
     ];
     for (n, cells, room, refusal) in cases {
@@ -198,4 +200,51 @@ fn read() {
     assert_eq!(mesh::read(&good, &mut nodes[..23], &mut cells), Err(Length));
     assert_eq!(mesh::read(&good, &mut nodes, &mut cells[..7]), Err(Length));
     assert_eq!((nodes, cells), ([77; 24], [77; 8]));
+}
+
+/// Each refusal has one later in the order beside it where there can be one; there is no room, or
+/// more than enough.
+#[test]
+fn write() {
+    let many = CELL.repeat(129);
+    let cases: [(usize, Vec<u32>, Refusal); 15] = [
+        (3073, vec![], Limit),
+        (3075, vec![9; 7], Limit),
+        (3075, two_cells(|c| c[0] = u32::MAX), Limit),
+        (4, many[..1025].to_vec(), Limit),
+        (24, many.clone(), Limit),
+        (1, vec![], Length),
+        (3071, vec![9; 7], Length),
+        (4, CELL.to_vec(), Length),
+        (24, vec![9; 7], Length),
+        (0, many[..1023].to_vec(), Length),
+        (0, CELL.to_vec(), Range),
+        (21, two_cells(|c| c[1] = 0), Range),
+        (24, two_cells(|c| (c[8], c[9], c[15]) = (0, 0, 8)), Range),
+        (24, two_cells(|c| (c[2], c[15]) = (c[1], u32::MAX)), Twice),
+        (24, two_cells(|c| c[15] = c[8]), Twice),
+    ];
+    for (words, cells, refusal) in cases {
+        for room in [0, 40_000] {
+            let mut out = vec![77; room];
+            assert_eq!(mesh::write(&vec![0; words], &cells, &mut out), Err(refusal));
+            assert_eq!(out, vec![77; room]);
+        }
+    }
+}
+
+/// The last refusal: a byte short of the file.
+#[test]
+fn room_for_a_file() {
+    for (n, cells) in [(0, vec![]), (1, vec![]), (8, CELL.to_vec()), (1024, CELL.repeat(128))] {
+        let (nodes, file) = (vec![0; 3 * n as usize], file(n, &cells));
+        let length = file.len();
+        let mut out = vec![77; length + 1];
+        for room in [0, 12, length - 1] {
+            assert_eq!(mesh::write(&nodes, &cells, &mut out[..room]), Err(Length));
+        }
+        assert_eq!(out, vec![77; length + 1]);
+        assert_eq!(mesh::write(&nodes, &cells, &mut out[..length]), Ok(length as u32));
+        assert_eq!(out, [&file[..], &[77]].concat());
+    }
 }
