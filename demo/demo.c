@@ -1,6 +1,8 @@
 /* Where does the thermocouple sit? A probe is buried in a cast block that is meshed by one hexahedron and one prism.
- * Then a mesh of two hexahedra is refined, and the node numbers of the sixteen children are printed. */
+ * Then a mesh of two hexahedra is refined, and the node numbers of the sixteen children are printed. Last the mesh is written as a file,
+ * the file is read, and what was read is compared with what was written. */
 #include <stdio.h>
+#include <string.h>
 #include "isnemgul.h"
 
 /* The corners with the probe's place subtracted. */
@@ -53,9 +55,16 @@ static void locate(void) {
     say_checked("a place 1e-6 beside it", isn_hex_check(corners, found, 1e-9));
 }
 
+/* The mesh: two cells, and the places of its 12 nodes. */
+static const uint32_t cells[16] = {0, 1, 2, 3, 4, 5, 6, 7, 1, 8, 9, 2, 5, 11, 10, 6};
+static const double places[36] = {
+    0,   0, 0,   0.1, 0, 0,   0.1, 0.1, 0,   0,   0.1, 0,   /* 0 to 3 */
+    0,   0, 0.1, 0.1, 0, 0.1, 0.1, 0.1, 0.1, 0,   0.1, 0.1, /* 4 to 7 */
+    0.3, 0, 0,   0.3, 0.1, 0, 0.3, 0.1, 0.1, 0.3, 0,   0.1, /* 8 to 11 */
+};
+
 /* The table that `hexkids` prints for a mesh file with these cells. */
 static void refine(void) {
-    static const uint32_t cells[16] = {0, 1, 2, 3, 4, 5, 6, 7, 1, 8, 9, 2, 5, 11, 10, 6};
     uint32_t children[2 * ISN_REFINED_NUMBERS], next;
     uint32_t answer = isn_refine(12, cells, 16, children, 2 * ISN_REFINED_NUMBERS, &next);
     if (answer != ISN_OK) {
@@ -67,9 +76,31 @@ static void refine(void) {
         printf("%u%c", (unsigned)children[i], i % 8 == 7 ? '\n' : ' ');
 }
 
+/* The lists own the counts: the file holds as many nodes and cells as they do. Answers whether the file gives both lists back, bit for bit. */
+static int write_and_read(void) {
+    static uint8_t file[ISN_LONGEST_FILE];
+    uint64_t nodes[36], read_nodes[36];
+    uint32_t read_cells[16], length, counts[2];
+    memcpy(nodes, places, sizeof nodes);
+    uint32_t answer = isn_hxm_write(nodes, 36, cells, 16, file, sizeof file, &length);
+    if (answer == ISN_OK) {
+        printf("written: %u bytes\n", (unsigned)length);
+        answer = isn_hxm_read(file, length, read_nodes, 36, read_cells, 16, counts);
+    }
+    if (answer != ISN_OK) {
+        say_refused(answer);
+        return 0;
+    }
+    int same = counts[0] == 12 && memcmp(read_nodes, nodes, sizeof nodes) == 0 && counts[1] == 2 && memcmp(read_cells, cells, sizeof cells) == 0;
+    printf("read back: %u nodes and %u cells, %s\n", (unsigned)counts[0], (unsigned)counts[1],
+           same ? "both lists are the same" : "NOT the lists that were written");
+    return same;
+}
+
 int main(void) {
     locate();
     printf("\nTwo cells that share the face 1 2 6 5, refined: its middle is node 26 in both.\n");
     refine();
-    return 0;
+    printf("\nThe same two cells and the places of their 12 nodes, as a mesh file.\n");
+    return write_and_read() ? 0 : 1;
 }
