@@ -31,7 +31,7 @@ static double points[48], floats[36], more[24], one;
 static uint32_t cells[1024], numbers[8192], number;
 static int32_t whole[3];
 static isn_proposal proposals[256];
-static uint8_t file[28685];
+static uint8_t file[ISN_LONGEST_FILE];
 static uint64_t words[3072];
 
 static volatile uint32_t answer;
@@ -64,7 +64,8 @@ static volatile uint32_t answer;
     X(isn_prism_subdivide, (nodes, nodes, nodes, numbers))                                                      \
     X(isn_refine, (1024, cells, 1024, numbers, 8192, &number))                                                  \
     X(isn_descendant, (path, 20, 7, whole))                                                                     \
-    X(isn_hxm_read, (file, sizeof file, words, 3072, cells, 1024, numbers))
+    X(isn_hxm_read, (file, sizeof file, words, 3072, cells, 1024, numbers))                                     \
+    X(isn_hxm_write, (words, 3072, cells, 1024, file, sizeof file, &number))
 
 #define CALLER(name, arguments)          \
     static void call_##name(void) {      \

@@ -87,6 +87,15 @@ unsafe extern "C" {
         cells_room: usize,
         counts: &mut [u32; 2],
     ) -> u32;
+    fn isn_hxm_write(
+        nodes: *const u64,
+        nodes_length: usize,
+        cells: *const u32,
+        cells_length: usize,
+        out: *mut u8,
+        room: usize,
+        length: &mut u32,
+    ) -> u32;
     fn plain_refine(
         n: u32,
         cells: *const u32,
@@ -146,4 +155,10 @@ pub fn read(bytes: &[u8], nodes: &mut [u64], cells: &mut [u32], counts: &mut [u3
     let (words, words_room) = (nodes.as_mut_ptr(), nodes.len());
     let (numbers, room) = (cells.as_mut_ptr(), cells.len());
     unsafe { isn_hxm_read(bytes.as_ptr(), bytes.len(), words, words_room, numbers, room, counts) }
+}
+
+pub fn write(nodes: &[u64], cells: &[u32], out: &mut [u8], length: &mut u32) -> u32 {
+    let (words, numbers) = ((nodes.as_ptr(), nodes.len()), (cells.as_ptr(), cells.len()));
+    let (bytes, room) = (out.as_mut_ptr(), out.len());
+    unsafe { isn_hxm_write(words.0, words.1, numbers.0, numbers.1, bytes, room, length) }
 }

@@ -151,3 +151,30 @@ pub fn read(bytes: &[u8], nodes: &mut [u64], cells: &mut [u32]) -> Result<[u32; 
 fn cell(bytes: &[u8; 32]) -> [u32; 8] {
     std::array::from_fn(|k| number_at(bytes, 4 * k))
 }
+
+#[inline(never)]
+pub fn write(nodes: &[u64], cells: &[u32], out: &mut [u8]) -> Result<u32, u32> {
+    if nodes.len() > 3072 || cells.len() > 1024 {
+        return Err(7);
+    }
+    if !nodes.len().is_multiple_of(3) || !cells.len().is_multiple_of(8) {
+        return Err(8);
+    }
+    let (n, c) = (nodes.len() as u32 / 3, cells.len() as u32 / 8);
+    faults(n, cells.as_chunks::<8>().0.iter().copied())?;
+    let length = 13 + 8 * nodes.len() + 4 * cells.len();
+    if out.len() < length {
+        return Err(8);
+    }
+    out[..5].copy_from_slice(b"HXM\x01\0");
+    out[5..9].copy_from_slice(&n.to_le_bytes());
+    out[9..13].copy_from_slice(&c.to_le_bytes());
+    let (of_nodes, of_cells) = out[13..length].split_at_mut(8 * nodes.len());
+    for (eight, word) in of_nodes.chunks_exact_mut(8).zip(nodes) {
+        eight.copy_from_slice(&word.to_le_bytes());
+    }
+    for (four, number) in of_cells.chunks_exact_mut(4).zip(cells) {
+        four.copy_from_slice(&number.to_le_bytes());
+    }
+    Ok(length as u32)
+}

@@ -252,7 +252,7 @@ pub fn all() -> Vec<Row> {
     rows.extend(children(chance));
     rows.push(proposals(chance));
     rows.extend(meshes(chance));
-    rows.push(files(chance));
+    rows.extend(files(chance));
     rows
 }
 
@@ -527,8 +527,8 @@ fn refinement(
     )
 }
 
-/// Files of 1,024 nodes and 128 cells.
-fn files(chance: &mut Chance) -> Row {
+/// Files of 1,024 nodes and 128 cells, and the lists that are read from them.
+fn files(chance: &mut Chance) -> Vec<Row> {
     let files: Rc<[Vec<u8>]> = (0..4)
         .map(|_| {
             let mut file = b"HXM\x01\0\0\x04\0\0\x80\0\0\0".to_vec();
@@ -537,12 +537,29 @@ fn files(chance: &mut Chance) -> Row {
             file
         })
         .collect();
-    row_into(
+    let read = row_into(
         "read a full file",
         "plain Rust",
         &files,
         (vec![0; 3072], vec![0; 1024], [0; 2]),
         |file, (nodes, cells, counts)| put(plain::read(file, nodes, cells), counts),
         |file, (nodes, cells, counts)| ours::read(file, nodes, cells, counts),
-    )
+    );
+    let lists: Rc<[(Vec<u64>, Vec<u32>)]> = files
+        .iter()
+        .map(|file| {
+            let (mut nodes, mut cells) = (vec![0; 3072], vec![0; 1024]);
+            plain::read(file, &mut nodes, &mut cells).expect("a good file");
+            (nodes, cells)
+        })
+        .collect();
+    let write = row_into(
+        "write a full file",
+        "plain Rust",
+        &lists,
+        (vec![0; 28_685], 0),
+        |(nodes, cells), (out, length)| put(plain::write(nodes, cells, out), length),
+        |(nodes, cells), (out, length)| ours::write(nodes, cells, out, length),
+    );
+    vec![read, write]
 }
