@@ -169,12 +169,14 @@ pub fn write(nodes: &[u64], cells: &[u32], out: &mut [u8]) -> Result<u32, u32> {
     out[..5].copy_from_slice(b"HXM\x01\0");
     out[5..9].copy_from_slice(&n.to_le_bytes());
     out[9..13].copy_from_slice(&c.to_le_bytes());
-    let (of_nodes, of_cells) = out[13..length].split_at_mut(8 * nodes.len());
-    for (eight, word) in of_nodes.chunks_exact_mut(8).zip(nodes) {
-        eight.copy_from_slice(&word.to_le_bytes());
+    let mut at = 13;
+    for word in nodes {
+        out[at..at + 8].copy_from_slice(&word.to_le_bytes());
+        at += 8;
     }
-    for (four, number) in of_cells.chunks_exact_mut(4).zip(cells) {
-        four.copy_from_slice(&number.to_le_bytes());
+    for number in cells {
+        out[at..at + 4].copy_from_slice(&number.to_le_bytes());
+        at += 4;
     }
     Ok(length as u32)
 }
