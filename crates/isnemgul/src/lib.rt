@@ -359,15 +359,10 @@ pub extern "C" fn isn_hxm_read(
 }
 
 #[no_mangle]
-pub extern "C" fn isn_hxm_write(
-    nodes: &[u64],
-    cells: &[u32],
-    out: &mut [u8],
-    file_length: &mut u32,
-) -> u32
+pub extern "C" fn isn_hxm_write(nodes: &[u64], cells: &[u32], out: &mut [u8], size: &mut u32) -> u32
     ensures answer { λ r. ⌜ Leaves (lengthOf (fileInto (length (now (out .entry))) (now (nodes .entry)) (now (cells .entry)))) r
-        (now (file_length .entry)) (now (file_length .exit)) ⌝ }
+        (now (size .entry)) (now (size .exit)) ⌝ }
     ensures output { λ _. ⌜ now (out .exit) ≡ left (fileInto (length (now (out .entry))) (now (nodes .entry)) (now (cells .entry))) (now (out .entry)) ⌝ }
 {
-    mesh_answers::put_writing(hxm_write::write(nodes, cells, out), file_length)
+    mesh_answers::put_writing(hxm_write::write(nodes, cells, out), size)
 }

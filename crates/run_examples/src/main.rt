@@ -18,6 +18,10 @@ fn say(number: u32) {
     io::print_decimal(STDOUT_FILENO, number as u64);
 }
 
+fn say_byte(byte: u8) {
+    say(byte as u32);
+}
+
 fn end_line() {
     io::write_all(STDOUT_FILENO, b"\n");
 }
@@ -257,8 +261,8 @@ fn again() {
     } else {
         io::write_all(STDOUT_FILENO, b"other bytes, and behind them:");
     }
-    say(out[237] as u32);
-    say(out[239] as u32);
+    say_byte(out[237]);
+    say_byte(out[239]);
     end_line();
 }
 
@@ -279,8 +283,8 @@ fn write(label: &[u8], words: usize, numbers: usize, last: u32, room: usize)
     io::write_all(STDOUT_FILENO, label);
     say_written(hxm_write::write(&nodes[0..words], &cells[0..numbers], &mut out[0..room]));
     io::write_all(STDOUT_FILENO, b"left in the buffer:");
-    say(out[0] as u32);
-    say(out[239] as u32);
+    say_byte(out[0]);
+    say_byte(out[239]);
     end_line();
 }
 
