@@ -1,5 +1,5 @@
 -- Nothing, a byte, and one text behind another, written into a buffer; what is put where there is room, and where there is none. Assumes nothing.
-use Prim.Native.Nat.{ℕ, zero, suc, _+_, _-_, _*_, _/_, _%_, _^_, _≤_, _<_}
+use Prim.Native.Nat.{ℕ, _+_, _-_, _*_, _≤_, _<_}
 use native.Mathlib.Numerals.{add-one}
 use native.Mathlib.Omega.{arith}
 use mathlib.Core.Path.{_≡_, refl, sym, _∙_, ap, ap₂}
@@ -7,11 +7,11 @@ use mathlib.Core.Bool.{Bool, true, false, not}
 use mathlib.Core.List.{List, [], _∷_, _++_, append-nil, append-assoc}
 use lib.Dec.{leb}
 use lib.ListN.{length, getD, take, drop, set, length-append, length-set, length-take, take-append-drop}
-use lib.Seq.{take-suc, take-suc-set, take-length, drop-set-lt, drop-drop, take-at, drop-at, length-front, length-take-le}
+use lib.Seq.{take-suc-set, take-length, drop-set-lt, drop-drop, take-at, drop-at, length-front, length-take-le}
 use borrow.Author.Tests.{le-leb, lt-leb, leb-true, leb-false, not-true, not-false}
 use Rattle.numbers.specs.Little.{bytes, allBytes}
-use Rattle.numbers.proofs.Little.{bytes-halves, length-bytes, all-bytes-more}
-use Rattle.numbers.proofs.Slots.{row-within}
+use Rattle.numbers.proofs.Little.{all-bytes-more}
+use Rattle.numbers.proofs.Slots.{row-next}
 use Rattle.buffer.specs.Put.{joined, hasRoom, put, placeBehind, Puts, Wrote, WroteLeavesOne, PutsWrite}
 
 pub wrote-none : {l : List ℕ} {at : ℕ} → Wrote l l at at []
@@ -34,23 +34,13 @@ wrote-then {a} {b} {c} {at} {mid} {end} {t} {u} w v =
       keeps = v .keeps ∙ w .keeps;
     }
 
--- one byte more of a text
-pub wrote-next : {a b c : List ℕ} {at i : ℕ} (text : List ℕ) → i < length text → Wrote a b at (at + i) (take i text)
-    → Wrote b c (at + i) (at + i + 1) (getD text i 0 ∷ []) → Wrote a c at (at + (i + 1)) (take (i + 1) text)
-wrote-next {a} {b} {c} {at} {i} text below w v =
-    let place : at + (i + 1) ≡ at + i + 1 = omega arith in
-    let more : take (i + 1) text ≡ take i text ++ (getD text i 0 ∷ []) = rw add-one (take-suc text i 0 below) in
-    rw (place, more) (wrote-then w v)
-
 pub wrote-as : {before after : List ℕ} {at end : ℕ} {t u : List ℕ} → t ≡ u → Wrote before after at end t → Wrote before after at end u
 wrote-as e w = rw e at w
 
--- a number of w + w bytes is written as its low half, and behind it its high half
-pub wrote-halves : {a b c : List ℕ} {at : ℕ} (w x : ℕ) → Wrote a b at (at + w) (bytes w (x % 256 ^ w)) → Wrote b c (at + w) (at + w + w) (bytes w (x / 256 ^ w))
-    → Wrote a c at (at + (w + w)) (bytes (w + w) x)
-wrote-halves {at = at} w x low high =
-    let place : at + (w + w) ≡ at + w + w = omega arith in
-    rw place (wrote-as (bytes-halves w x) (wrote-then low high))
+-- one text behind another, where both together are a third
+pub wrote-on : {a b c : List ℕ} {at mid end last : ℕ} {t u v : List ℕ} → end ≡ last → t ++ u ≡ v → Wrote a b at mid t → Wrote b c mid end u
+    → Wrote a c at last v
+wrote-on place text w more = wrote-as text (rw place at (wrote-then w more))
 
 -- what is written from the start is the head of the buffer
 pub wrote-counts : {before after : List ℕ} {end : ℕ} {t : List ℕ} → Wrote before after 0 end t → (end ≤ length after) × (end ≡ length (take end after))
@@ -146,25 +136,23 @@ module _ {f : ℕ → List ℕ} {w n : ℕ} {a : List ℕ} {at : ℕ} where
   pub writes-all : {b : List ℕ} {end i : ℕ} → Writes f w n a b at end i → n ≤ i → Wrote a b at end (joined n f) × (end ≤ at + w * n)
   writes-all {b} {end} {i} s last = let all : i ≡ n = omega (arith, s .within) in (rw all at (s .wrote), rw all at (s .most))
 
--- ---- the numbers of a list, w bytes each
-joined-numbers : (w : ℕ) (xs : List ℕ) (i : ℕ) → i ≤ length xs → joined i (λ (k : ℕ). bytes w (getD xs k 0)) ≡ allBytes w (take i xs)
-unfolding joined allBytes
-joined-numbers w xs zero h = refl
-joined-numbers w xs (suc i) h = rw (joined-numbers w xs i (omega arith), take-suc xs i 0, all-bytes-more w (take i xs) (getD xs i 0))
-
--- what a loop holds that puts each number behind the one before
-abbrev pub Numbers : ℕ → List ℕ → List ℕ → List ℕ → ℕ → ℕ → ℕ → Type 0
-Numbers w xs before after at end i = Writes (λ (k : ℕ). bytes w (getD xs k 0)) w (length xs) before after at end i
+-- ---- a list of numbers, w bytes each
+-- what a loop holds that writes each of them at its place, once it has written i of them
+pub record Laid (w : ℕ) (xs before after : List ℕ) (at i : ℕ) : Type 0 where
+  pub within : i ≤ length xs
+  pub wrote : Wrote before after at (at + w * i) (allBytes w (take i xs))
 
 module _ (w : ℕ) (xs : List ℕ) {a : List ℕ} {at : ℕ} where
-  pub numbers-more : {b c : List ℕ} {mid end i : ℕ} → Numbers w xs a b at mid i → at + w * length xs ≤ length a → i < length xs
-      → Puts b c mid end (bytes w (getD xs i 0)) → Numbers w xs a c at end (i + 1)
-  numbers-more {b} {c} {mid} {end} {i} s room below p =
-      let x = getD xs i 0 in
-      let fits : mid + length (bytes w x) ≤ length b =
-      rw (length-bytes w x) (omega (arith, s .most, s .wrote .keeps, row-within w i (length xs) below)) in
-      let more = puts-wrote fits p in
-      writes-more s below more (omega (arith, more .ends, length-bytes w x))
+  pub laid-none : Laid w xs a a at 0
+  unfolding allBytes
+  laid-none = let start : at + w * 0 ≡ at = omega arith in record { within = omega arith; wrote = rw start wrote-none }
 
-  pub numbers-all : {b : List ℕ} {end i : ℕ} → Numbers w xs a b at end i → length xs ≤ i → Wrote a b at end (allBytes w xs)
-  numbers-all s last = wrote-as (joined-numbers w xs (length xs) (omega arith) ∙ ap (allBytes w) (take-length xs)) (writes-all s last .0)
+  pub laid-more : {b c : List ℕ} {i : ℕ} → Laid w xs a b at i → i < length xs → Wrote b c (at + w * i) (at + w * i + w) (bytes w (getD xs i 0))
+      → Laid w xs a c at (i + 1)
+  laid-more {i = i} l below more =
+      record { within = omega arith; wrote = wrote-on (rw (row-next w i) (omega arith)) (all-bytes-more w xs i below) (l .wrote) more }
+
+  pub laid-all : {b : List ℕ} {i : ℕ} → Laid w xs a b at i → length xs ≤ i → Wrote a b at (at + w * length xs) (allBytes w xs)
+  laid-all {i = i} l last =
+      let all : i ≡ length xs = omega (arith, l .within) in
+      wrote-as (ap (allBytes w) (take-length xs)) (rw all at (l .wrote))

@@ -2,10 +2,10 @@
 // it, nothing is written, and the place is answered as it was.
 ghost use mathlib.Core.Path.{_≡_};
 ghost use mathlib.Core.List.{[], _∷_};
-ghost use Prim.Native.Nat.{_+_, _≤_};
+ghost use Prim.Native.Nat.{_+_, _*_, _≤_};
 ghost use lib.Dec.{leb};
 ghost use lib.ListN.{length};
-ghost use Rattle.numbers.specs.Little.{bytes};
+ghost use Rattle.numbers.specs.Little.{bytes, allBytes};
 ghost use Rattle.buffer.specs.Put.{Puts, Wrote};
 
 // Whether a buffer of `room` bytes has `size` of them behind the first `at`. Nothing is added to the place, which may be any number.
@@ -61,6 +61,29 @@ fn store_u64(out: &mut [u8], at: usize, x: u64)
     store_u32(&mut *out, at + 4, (x / 4294967296) as u32);
 }
 
+// The numbers of a list, one behind another.
+fn store_u32s(out: &mut [u8], at: usize, list: &[u32])
+    requires { ⌜ at + 4 * length (now list) ≤ length (now out) ⌝ }
+    ensures { λ _. ⌜ Wrote (now (out .entry)) (now (out .exit)) at (at + 4 * length (now (list .entry))) (allBytes 4 (now (list .entry))) ⌝ }
+{
+    let mut i: usize = 0;
+    while i < list.len() {
+        store_u32(&mut *out, at + 4 * i, list[i]);
+        i += 1;
+    }
+}
+
+fn store_u64s(out: &mut [u8], at: usize, list: &[u64])
+    requires { ⌜ at + 8 * length (now list) ≤ length (now out) ⌝ }
+    ensures { λ _. ⌜ Wrote (now (out .entry)) (now (out .exit)) at (at + 8 * length (now (list .entry))) (allBytes 8 (now (list .entry))) ⌝ }
+{
+    let mut i: usize = 0;
+    while i < list.len() {
+        store_u64(&mut *out, at + 8 * i, list[i]);
+        i += 1;
+    }
+}
+
 pub fn put_byte(out: &mut [u8], at: usize, b: u8) -> usize
     ensures { λ r. ⌜ Puts (now (out .entry)) (now (out .exit)) at r (b ∷ []) ⌝ }
 {
@@ -110,4 +133,27 @@ pub fn put_u64(out: &mut [u8], at: usize, x: u64) -> usize
     }
     store_u64(&mut *out, at, x);
     at + 8
+}
+
+// All numbers of a list.
+pub fn put_u32s(out: &mut [u8], at: usize, list: &[u32]) -> usize
+    ensures { λ r. ⌜ Puts (now (out .entry)) (now (out .exit)) at r (allBytes 4 (now (list .entry))) ⌝ }
+{
+    let size = 4 * list.len();
+    if !fits(out.len(), at, size) {
+        return at;
+    }
+    store_u32s(&mut *out, at, list);
+    at + size
+}
+
+pub fn put_u64s(out: &mut [u8], at: usize, list: &[u64]) -> usize
+    ensures { λ r. ⌜ Puts (now (out .entry)) (now (out .exit)) at r (allBytes 8 (now (list .entry))) ⌝ }
+{
+    let size = 8 * list.len();
+    if !fits(out.len(), at, size) {
+        return at;
+    }
+    store_u64s(&mut *out, at, list);
+    at + size
 }

@@ -1,5 +1,6 @@
 // The faults of a list of cells, eight node numbers each: what a mesh's reader and its refinement both refuse.
 ghost use mathlib.Core.Path.{_≡_};
+ghost use mathlib.Core.Bool.{not};
 ghost use Prim.Native.Nat.{_+_, _*_, _≤_, _<_};
 ghost use lib.ListN.{length};
 ghost use Rattle.numbers.specs.Rule.{tabulate};
@@ -16,28 +17,28 @@ fn in_range(n: u32, cell: [u32; 8]) -> bool
     ranged
 }
 
-// Whether node j of a cell differs from those before it.
-fn new_at(cell: [u32; 8], j: usize) -> bool
+// Whether node j of a cell stands among those before it.
+fn met_at(cell: [u32; 8], j: usize) -> bool
     requires { ⌜ j < 8 ⌝ }
-    ensures { λ r. ⌜ r ≡ newAt (names cell) j ⌝ }
+    ensures { λ r. ⌜ r ≡ not (newAt (names cell) j) ⌝ }
 {
     let x = cell[j];
-    let mut new = true;
+    let mut met = false;
     for i in 0..j {
-        new = (cell[i] != x) & new;
+        met = (cell[i] == x) | met;
     }
-    new
+    met
 }
 
-// Whether a cell names no node twice.
-fn different(cell: [u32; 8]) -> bool
-    ensures { λ r. ⌜ r ≡ different 8 (names cell) ⌝ }
+// Whether a cell names a node twice.
+fn twice(cell: [u32; 8]) -> bool
+    ensures { λ r. ⌜ r ≡ not (different 8 (names cell)) ⌝ }
 {
-    let mut apart = true;
+    let mut twice = false;
     for j in 0..8usize {
-        apart = new_at(cell, j) & apart;
+        twice = met_at(cell, j) | twice;
     }
-    apart
+    twice
 }
 
 // 9 before 10, or 0 for a cell without a fault.
@@ -45,11 +46,11 @@ pub fn fault_of(n: u32, cell: [u32; 8]) -> u32
     ensures { λ r. ⌜ r ≡ fault n 8 (names cell) ⌝ }
 {
     let ranged = in_range(n, cell);
-    let apart = different(cell);
+    let twice = twice(cell);
     if !ranged {
         return 9;
     }
-    if !apart {
+    if twice {
         return 10;
     }
     0

@@ -7,11 +7,13 @@ use mathlib.Core.List.{List}
 use lib.Dec.{eqb, ltb}
 use lib.ListN.{length}
 use borrow.Author.Tests.{le-ltb, eq-eqb, ltb-false, eqb-true, not-false}
+use Rattle.numbers.specs.Little.{bytes}
+use Rattle.numbers.proofs.Little.{length-all-bytes}
 use Rattle.answer.specs.Answer.{Answer, answered, refused, left}
 use Rattle.answer.proofs.Answers.{unless, then-unless, then-refused, then-answered, answered-same}
-use Rattle.buffer.specs.Put.{Wrote}
-use Rattle.buffer.proofs.Writing.{wrote-is}
-use Rattle.hxm.specs.Format.{mostWords, mostNumbers, nodeWords, cellNumbers, headLength, fileOf, faultIn}
+use Rattle.buffer.specs.Put.{Puts, Wrote}
+use Rattle.buffer.proofs.Writing.{wrote-then, wrote-is, puts-wrote}
+use Rattle.hxm.specs.Format.{mostWords, mostNumbers, nodeWords, cellNumbers, headLength, headOf, nodesPart, cellsPart, fileOf, faultIn}
 use Rattle.hxm.proofs.Format.{length-file}
 use Rattle.hxm_write.specs.Writes.{meshOfLists, isWhole, fileFor, fileInto, lengthOf, ToldLosesNothing}
 use Rattle.hxm_write.specs.declared.Writing.the-variants.{Length, Refused}
@@ -86,11 +88,17 @@ counted room nodes cells n e =
       fits = omega (arith, ap length (w .file), w .fits);
     }
 
-pub left-by : {room : ℕ} {nodes cells s out out′ : List ℕ} {end : ℕ} → Written room nodes cells s → Wrote out out′ 0 end s
-    → out′ ≡ left (fileInto room nodes cells) out
-left-by {room} {nodes} {cells} {s} {out} w wrote =
+pub left-by : {nodes cells out a b out′ : List ℕ} {i j k : ℕ} → Written (length out) nodes cells (fileOf (meshOfLists nodes cells))
+    → let m = meshOfLists nodes cells in Wrote out a 0 i (headOf 1 (m .nodes) (m .cells)) → Puts a b i j (nodesPart nodes) → Puts b out′ j k (cellsPart cells)
+    → out′ ≡ left (fileInto (length out) nodes cells) out
+unfolding bytes
+left-by {nodes} {cells} {out} w head words numbers =
+    let s = fileOf (meshOfLists nodes cells) in
+    let long : headLength + 8 * length nodes + 4 * length cells ≤ length out = omega (arith, length-file (meshOfLists nodes cells), w .fits) in
+    let first = puts-wrote (rw (length-all-bytes 8 nodes) (omega (arith, head .ends, head .keeps))) words in
+    let more = puts-wrote (rw (length-all-bytes 4 cells) (omega (arith, head .ends, head .keeps, first .ends, first .keeps, length-all-bytes 8 nodes))) numbers in
     let start : 0 + length s ≡ length s = omega arith in
-    rw (answers room nodes cells s w) (rw start at (wrote-is wrote))
+    rw (answers (length out) nodes cells s w) (rw start at (wrote-is (wrote-then head (wrote-then first more))))
 
 -- and what a refusal leaves
 pub left-alone : (file : Answer (List ℕ)) (k : ℕ) (out : List ℕ) → refused k ≡ lengthOf file → out ≡ left file out

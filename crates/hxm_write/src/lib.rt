@@ -5,11 +5,11 @@ use hxm::MOST_NUMBERS;
 use hxm::MOST_WORDS;
 use hxm::NODE_WORDS;
 ghost use mathlib.Core.Path.{_≡_};
-ghost use Prim.Native.Nat.{_+_, _*_, _≤_};
+ghost use Prim.Native.Nat.{_≤_};
 ghost use lib.ListN.{length};
 ghost use Rattle.answer.specs.Answer.{left};
 ghost use Rattle.buffer.specs.Put.{Wrote};
-ghost use Rattle.hxm.specs.Format.{headOf, nodesPart, cellsPart};
+ghost use Rattle.hxm.specs.Format.{headOf};
 ghost use Rattle.hxm_write.specs.Writes.{told, lengthOf, fileInto};
 
 // The length of the file that was written, or a refusal's number.
@@ -57,34 +57,6 @@ fn put_head(out: &mut [u8], version: u16, nodes: u32, cells: u32) -> usize
     buffer::put_u32(&mut *out, counted, cells)
 }
 
-// Writes the nodes, a word behind another.
-fn put_nodes(out: &mut [u8], at: usize, nodes: &[u64]) -> usize
-    requires { ⌜ at + 8 * length (now nodes) ≤ length (now out) ⌝ }
-    ensures { λ r. ⌜ Wrote (now (out .entry)) (now (out .exit)) at r (nodesPart (now (nodes .entry))) ⌝ }
-{
-    let mut end = at;
-    let mut i: usize = 0;
-    while i < nodes.len() {
-        end = buffer::put_u64(&mut *out, end, nodes[i]);
-        i += 1;
-    }
-    end
-}
-
-// Writes the cells, a number behind another.
-fn put_cells(out: &mut [u8], at: usize, cells: &[u32]) -> usize
-    requires { ⌜ at + 4 * length (now cells) ≤ length (now out) ⌝ }
-    ensures { λ r. ⌜ Wrote (now (out .entry)) (now (out .exit)) at r (cellsPart (now (cells .entry))) ⌝ }
-{
-    let mut end = at;
-    let mut i: usize = 0;
-    while i < cells.len() {
-        end = buffer::put_u32(&mut *out, end, cells[i]);
-        i += 1;
-    }
-    end
-}
-
 // Writes the file of a mesh: three words a node, eight numbers a cell.
 pub fn write(nodes: &[u64], cells: &[u32], out: &mut [u8]) -> Writing
     ensures answer { λ r. ⌜ told r ≡ lengthOf (fileInto (length (now (out .entry))) (now (nodes .entry)) (now (cells .entry))) ⌝ }
@@ -99,8 +71,8 @@ pub fn write(nodes: &[u64], cells: &[u32], out: &mut [u8]) -> Writing
                 (nodes.len() / NODE_WORDS) as u32,
                 (cells.len() / CELL_NUMBERS) as u32,
             );
-            let behind = put_nodes(&mut *out, head, nodes);
-            put_cells(&mut *out, behind, cells);
+            let behind = buffer::put_u64s(&mut *out, head, nodes);
+            buffer::put_u32s(&mut *out, behind, cells);
             Writing::Length(n)
         }
         Writing::Refused(k) => Writing::Refused(k),

@@ -4,7 +4,7 @@ use native.Mathlib.Nat.{eq-or-lt-of-le, le-of-suc-le-suc, not-suc-le-zero}
 use native.Mathlib.Numerals.{add-one}
 use native.Mathlib.Omega.{arith}
 use mathlib.Core.Path.{_≡_, refl}
-use mathlib.Core.Bool.{Bool, true, false, _&&_}
+use mathlib.Core.Bool.{Bool, true, false, not, _&&_, _||_}
 use mathlib.Core.Logic.{⊎-elim}
 use Rattle.numbers.specs.Rule.{all}
 use Rattle.numbers.proofs.Tests.{holds, is-true, first, second, all-at}
@@ -19,7 +19,19 @@ right-false : (a b : Bool) → b ≡ false → (a && b) ≡ false
 right-false true b h = h
 right-false false b h = refl
 
+not-both : (a b : Bool) → (not a || not b) ≡ not (a && b)
+not-both true b = refl
+not-both false b = refl
+
+pub not-not : (a : Bool) → a ≡ not (not a)
+not-not true = refl
+not-not false = refl
+
 module _ (p : ℕ → Bool) where
+  -- where not all pass: one number more
+  pub missed-more : (k : ℕ) (miss missed : Bool) → miss ≡ not (p k) → missed ≡ not (all k p) → (miss || missed) ≡ not (all (k + 1) p)
+  missed-more k miss missed e es = rw (add-one, e, es) (not-both (p k) (all k p))
+
   pub all-more : (k : ℕ) → all k p ≡ true → p k ≡ true → all (k + 1) p ≡ true
   all-more k h e = rw (add-one, e) h
 

@@ -1,12 +1,13 @@
 -- Little-endian numbers: read and written, they undo each other at every width; and a number read in halves. Assumes nothing.
 use Prim.Native.Nat.{ℕ, zero, suc, _+_, _*_, _/_, _%_, _^_, _<_, _≤_}
 use native.Mathlib.Nat.{pow-succ', one-le-pow, mul-assoc, add-zero, zero-add, suc-add, mod-lt, mod-add-div, le-of-suc-le-suc, not-suc-le-zero, mul-le-mul-left}
+use native.Mathlib.Numerals.{add-one}
 use native.Mathlib.Omega.{arith}
 use mathlib.Core.Path.{_≡_, refl, sym, _∙_, ap, ap₂}
 use mathlib.Core.List.{List, [], _∷_, _++_, append-assoc, append-nil}
 use lib.Dec.{lit<}
 use lib.ListN.{length, getD, take, drop, length-append, length-drop}
-use lib.Seq.{length-take-le, drop-cons, drop-drop, take-add, take-at, drop-at, getD-take, getD-drop}
+use lib.Seq.{take-suc, length-take-le, drop-cons, drop-drop, take-add, take-at, drop-at, getD-take, getD-drop}
 use Rattle.numbers.specs.Rule.{tabulate}
 use Rattle.numbers.specs.Little.{little, numberAt, numbersAt, bytes, allBytes, Below, LittleEndian}
 use Rattle.numbers.proofs.Prefix.{tabulate-where}
@@ -93,10 +94,13 @@ unfolding bytes
 byte-is b h = let low : b % 256 ≡ b = omega arith in rw low
 
 -- one number more
-pub all-bytes-more : (w : ℕ) (xs : List ℕ) (x : ℕ) → allBytes w (xs ++ (x ∷ [])) ≡ allBytes w xs ++ bytes w x
+all-bytes-behind : (w : ℕ) (xs : List ℕ) (x : ℕ) → allBytes w (xs ++ (x ∷ [])) ≡ allBytes w xs ++ bytes w x
 unfolding allBytes
-all-bytes-more w [] x = append-nil (bytes w x)
-all-bytes-more w (y ∷ ys) x = rw (all-bytes-more w ys x) (sym (append-assoc (bytes w y) (allBytes w ys) (bytes w x)))
+all-bytes-behind w [] x = append-nil (bytes w x)
+all-bytes-behind w (y ∷ ys) x = rw (all-bytes-behind w ys x) (sym (append-assoc (bytes w y) (allBytes w ys) (bytes w x)))
+
+pub all-bytes-more : (w : ℕ) (xs : List ℕ) (i : ℕ) → i < length xs → allBytes w (take i xs) ++ bytes w (getD xs i 0) ≡ allBytes w (take (i + 1) xs)
+all-bytes-more w xs i below = rw (add-one, take-suc xs i 0 below) (sym (all-bytes-behind w (take i xs) (getD xs i 0)))
 
 -- the part of a list from `at` on, of which each number is below the same bound
 below-part : (bound w at : ℕ) (s : List ℕ) → Below bound s → at + w ≤ length s → Below bound (take w (drop at s))

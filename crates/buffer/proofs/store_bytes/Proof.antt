@@ -1,11 +1,13 @@
 -- `buffer::store_bytes` meets its contract: the first i bytes are written. Assumes nothing.
 use Prim.Native.Nat.{_+_, _-_, _≤_}
+use native.Mathlib.Numerals.{add-one}
 use native.Mathlib.Omega.{arith}
-use mathlib.Core.Path.{_≡_}
-use lib.ListN.{length, take}
-use lib.Seq.{take-length}
+use mathlib.Core.Path.{_≡_, sym}
+use mathlib.Core.List.{[], _∷_, _++_}
+use lib.ListN.{length, getD, take}
+use lib.Seq.{take-suc, take-length}
 use Rattle.buffer.specs.Put.{Wrote}
-use Rattle.buffer.proofs.Writing.{wrote-none, wrote-next, wrote-as}
+use Rattle.buffer.proofs.Writing.{wrote-none, wrote-on, wrote-as}
 use Rattle.buffer.proofs.store_bytes.Statement.{statement}
 use Rattle.buffer.proofs.store_bytes.Tie as tie
 
@@ -22,7 +24,9 @@ loop-again : tie.Need-loop-again Inv-loop μ-loop
 loop-again c =
     let turn = c .before .before .before .before .before .before in
     let text = turn .before .before .before .args .text .now in
-    (omega arith, wrote-next text (omega arith) (turn .loop .inv .1) (c .before .before .store-byte .ensures))
+    let i = turn .loop .i in
+    let more : take i text ++ (getD text i 0 ∷ []) ≡ take (i + 1) text = rw add-one (sym (take-suc text i 0 (omega arith))) in
+    (omega arith, wrote-on (omega arith) more (turn .loop .inv .1) (c .before .before .store-byte .ensures))
 
 returns : tie.Need-returns Inv-loop μ-loop
 returns c =

@@ -2,8 +2,8 @@
 use native.Mathlib.Omega.{arith}
 use mathlib.Core.Path.{sym}
 use borrow.Author.Needs.{needs}
-use Rattle.numbers.proofs.Little.{byte-is}
-use Rattle.buffer.proofs.Writing.{wrote-as, wrote-halves}
+use Rattle.numbers.proofs.Little.{bytes-halves, byte-is}
+use Rattle.buffer.proofs.Writing.{wrote-as, wrote-on}
 use Rattle.buffer.proofs.store_u16.Statement.{statement}
 use Rattle.buffer.proofs.store_u16.Tie as tie
 
@@ -12,7 +12,7 @@ returns c =
     let high = c .before .before in
     let low = high .before .before .before .before in
     let x = low .before .before .before .args .x in
-    wrote-halves 1 x (wrote-as (sym (byte-is _ (omega arith))) (low .store-byte .ensures)) (wrote-as (sym (byte-is _ (omega arith))) (high .store-byte2 .ensures))
+    wrote-on (omega arith) (bytes-halves 1 x) (wrote-as (sym (byte-is _ (omega arith))) (low .store-byte .ensures)) (wrote-as (sym (byte-is _ (omega arith))) (high .store-byte2 .ensures))
 
 pub store-u16-spec : {M : Type 1} → statement M
 store-u16-spec =

@@ -1,6 +1,8 @@
 -- `buffer::store_u64` meets its contract: two numbers of four bytes each, the low one first. Assumes nothing.
+use native.Mathlib.Omega.{arith}
 use borrow.Author.Needs.{needs}
-use Rattle.buffer.proofs.Writing.{wrote-halves}
+use Rattle.numbers.proofs.Little.{bytes-halves}
+use Rattle.buffer.proofs.Writing.{wrote-on}
 use Rattle.buffer.proofs.store_u64.Statement.{statement}
 use Rattle.buffer.proofs.store_u64.Tie as tie
 
@@ -9,7 +11,7 @@ returns c =
     let high = c .before .before in
     let low = high .before .before .before .before in
     let x = low .before .before .before .args .x in
-    wrote-halves 4 x (low .store-u32 .ensures) (high .store-u322 .ensures)
+    wrote-on (omega arith) (bytes-halves 4 x) (low .store-u32 .ensures) (high .store-u322 .ensures)
 
 pub store-u64-spec : {M : Type 1} → statement M
 store-u64-spec =

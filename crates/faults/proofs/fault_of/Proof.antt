@@ -1,6 +1,8 @@
 -- `faults::fault_of` meets its contract: the two tests in the definition's order. Assumes nothing.
+use mathlib.Core.Path.{sym, _∙_}
 use borrow.Author.Needs.{needs}
 use borrow.Author.Tests.{not-true, not-false}
+use Rattle.faults.specs.Faults.{names, different}
 use Rattle.faults.proofs.fault_of.Statement.{statement}
 use Rattle.faults.proofs.fault_of.Tie as tie
 
@@ -15,8 +17,7 @@ returns-2 c =
     rw (
       ← tests .before .in-range .ensures,
       not-false (tests .before .in-range .result) (c .before .if1 .left),
-      ← tests .different .ensures,
-      not-true (tests .different .result) (c .if2 .taken),
+      not-true (different 8 (names (tests .before .before .args .cell))) (sym (tests .twice .ensures) ∙ c .if2 .taken),
     )
 
 returns-3 : tie.Need-returns-3
@@ -25,8 +26,7 @@ returns-3 c =
     rw (
       ← tests .before .in-range .ensures,
       not-false (tests .before .in-range .result) (c .before .if1 .left),
-      ← tests .different .ensures,
-      not-false (tests .different .result) (c .if2 .left),
+      not-false (different 8 (names (tests .before .before .args .cell))) (sym (tests .twice .ensures) ∙ c .if2 .left),
     )
 
 pub fault-of-spec : {M : Type 1} → statement M

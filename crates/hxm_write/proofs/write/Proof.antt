@@ -5,10 +5,7 @@ use mathlib.Core.Path.{_≡_, sym, _∙_, ap}
 use mathlib.Core.List.{List}
 use borrow.Author.Needs.{needs}
 use lib.ListN.{length}
-use Rattle.numbers.specs.Little.{bytes}
-use Rattle.numbers.proofs.Little.{length-all-bytes}
 use Rattle.answer.specs.Answer.{answered}
-use Rattle.buffer.proofs.Writing.{wrote-then}
 use Rattle.hxm.specs.Format.{fileOf}
 use Rattle.hxm.proofs.Format.{length-file}
 use Rattle.hxm_write.specs.Writes.{meshOfLists, fileInto, lengthOf, told}
@@ -36,36 +33,13 @@ module _ (c : tie.After-known-told) where
   room : 13 + 8 * length nodes-of + 4 * length cells-of ≤ length out-of
   room = omega (arith, length-file (meshOfLists nodes-of cells-of), file .fits)
 
-put-nodes-requires : tie.Need-put-nodes-requires
-unfolding bytes
-put-nodes-requires c κs =
-    let head = c .before .before .before in
-    omega (arith, room (head .before .before), head .put-head .ensures .ends, head .put-head .ensures .keeps)
-
-put-cells-requires : tie.Need-put-cells-requires
-unfolding bytes
-put-cells-requires c κs =
-    let nodes = c .before .before .before in
-    let head = nodes .before .before .before .before in
-    let told = head .before .before in
-    omega (
-      arith,
-      room told,
-      length-all-bytes 8 (nodes-of told),
-      head .put-head .ensures .ends,
-      head .put-head .ensures .keeps,
-      nodes .put-nodes .ensures .ends,
-      nodes .put-nodes .ensures .keeps,
-    )
-
 returns : tie.Need-returns
 returns c =
     let cells = c .before .before in
     let nodes = cells .before .before .before .before in
     let head = nodes .before .before .before .before in
     let told = head .before .before in
-    let text = wrote-then (head .put-head .ensures) (wrote-then (nodes .put-nodes .ensures) (cells .put-cells .ensures)) in
-    (answer told, left-by (file told) text)
+    (answer told, left-by (file told) (head .put-head .ensures) (nodes .put-u64s .ensures) (cells .put-u32s .ensures))
 
 returns-2 : tie.Need-returns-2
 returns-2 c =
@@ -83,8 +57,8 @@ write-spec =
     (λ c. omega (arith, file (c .before) .nodesFew))
     (λ c. omega (arith, file (c .before) .cellsFew))
     (λ c κs. omega (arith, room (c .before)))
-    put-nodes-requires
-    put-cells-requires
+    (λ c κs. search needs)
+    (λ c κs. search needs)
     (λ c. search needs)
     (λ c. search needs)
     returns

@@ -1,0 +1,36 @@
+-- `buffer::store_u64s` meets its contract: the first i numbers are written. Assumes nothing.
+use Prim.Native.Nat.{_-_}
+use native.Mathlib.Omega.{arith}
+use lib.ListN.{length}
+use Rattle.buffer.proofs.Writing.{Laid, laid-none, laid-more, laid-all}
+use Rattle.buffer.proofs.store_u64s.Statement.{statement}
+use Rattle.buffer.proofs.store_u64s.Tie as tie
+
+abbrev Inv-loop : tie.InvT-loop
+Inv-loop out₀ at list i₀ out i = Laid 8 list out₀ out at i
+
+abbrev μ-loop : tie.MeasureT-loop
+μ-loop out₀ at list i₀ out i = length list - i
+
+loop-again : tie.Need-loop-again Inv-loop μ-loop
+loop-again c =
+    let turn = c .before .before .before .before .before .before in
+    laid-more 8 (turn .before .before .before .args .list .now) (turn .loop .inv) (omega arith) (c .before .before .store-u64 .ensures)
+
+pub store-u64s-spec : {M : Type 1} → statement M
+store-u64s-spec =
+    tie.close
+    (tie.spec
+    Inv-loop
+    μ-loop
+    (λ c. laid-none 8 _)
+    (λ c. omega arith)
+    (λ c. omega arith)
+    (λ c. omega arith)
+    (λ c. omega arith)
+    (λ c κs. omega (arith, c .before .before .before .loop .inv .wrote .keeps))
+    (λ c. omega arith)
+    (λ c. omega arith)
+    loop-again
+    (λ c. c .before .loop .inv .wrote .keeps)
+    (λ c. laid-all 8 _ (c .before .loop .inv) (omega arith)))
