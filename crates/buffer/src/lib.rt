@@ -87,7 +87,7 @@ fn store_u64s(out: &mut [u8], at: usize, list: &[u64])
 pub fn put_byte(out: &mut [u8], at: usize, b: u8) -> usize
     ensures { λ r. ⌜ Puts (now (out .entry)) (now (out .exit)) at r (b ∷ []) ⌝ }
 {
-    if !fits(out.len(), at, 1) {
+    if at >= out.len() {
         return at;
     }
     store_byte(&mut *out, at, b);

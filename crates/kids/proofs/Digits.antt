@@ -24,3 +24,8 @@ fewer-digits (suc (suc k)) x below h =
     let less : suc (suc k) - 1 ≡ suc k = omega arith in
     let small : x < 10 * 10 ^ suc k = rw (pow-succ' 10 (suc k)) at below in
     rw less (omega arith, omega arith)
+
+pub two-digits : (k x : ℕ) → x < 10 ^ k → 10 ≤ x → x < 100 → decimalIn k x ≡ (48 + x / 10) ∷ (48 + x % 10) ∷ []
+two-digits k x below h less =
+    let fewer = fewer-digits k x below h in
+    rw (decimal-more k x (omega arith) h, decimal-last (k - 1) (x / 10) (fewer .0) (omega arith))

@@ -23,6 +23,10 @@ fn put_digits(out: &mut [u8], at: usize, x: u32, k: usize) -> usize
     if x < 10 {
         return buffer::put_byte(out, at, digit(x));
     }
+    if x < 100 {
+        let first = buffer::put_byte(&mut *out, at, digit(x / 10));
+        return buffer::put_byte(out, first, digit(x % 10));
+    }
     let end = put_digits(&mut *out, at, x / 10, k - 1);
     buffer::put_byte(out, end, digit(x % 10))
 }

@@ -1,4 +1,4 @@
--- `kids::put_digits` meets its contract: the digits before the last, of which there are fewer, and then the last. Assumes nothing.
+-- `kids::put_digits` meets its contract: one digit, two, or those before the last, of which there are fewer, and then the last. Assumes nothing.
 use Prim.Native.Nat.{ℕ, _-_, _/_, _<_}
 use native.Mathlib.Omega.{arith}
 use mathlib.Core.Path.{_≡_, sym}
@@ -8,7 +8,7 @@ use borrow.Fn.Kinds.{In}
 use borrow.Fn.PlainCycle.{Measures, is, falls, and}
 use Rattle.buffer.proofs.Writing.{wrote-then, puts-wrote}
 use Rattle.kids.specs.Text.{decimalIn}
-use Rattle.kids.proofs.Digits.{decimal-last, decimal-more, fewer-digits}
+use Rattle.kids.proofs.Digits.{decimal-last, decimal-more, fewer-digits, two-digits}
 use Rattle.kids.proofs.put_digits.Reads as put-digits
 use Rattle.kids.proofs.put_digits.Kinds as put-digits-kinds
 use Rattle.kids.proofs.+put_digits.Lts-put_digits as put-digits-lts
@@ -40,22 +40,36 @@ module _ (t : ℕ) where
       let wrote = puts-wrote (omega (arith, start .pre)) (c .before .before .put-byte .ensures) in
       (rw text at wrote, omega (arith, wrote .ends))
 
+  returns-2 : put-digits-lts.Need-returns-2 claims (put-digits-at t) put-digits.Post
+  returns-2 c =
+      let low = c .before .before in
+      let high = low .before .before .before .before .before in
+      let start = high .before .before .before .before .before .before in
+      let fewer = fewer-digits (start .args .k) (start .args .x) (start .pre .1 .1) (omega arith) in
+      let text : high .before .digit2 .result ∷ low .before .digit3 .result ∷ [] ≡ decimalIn (start .args .k) (start .args .x) =
+      rw (high .before .digit2 .ensures, low .before .digit3 .ensures)
+      (sym (two-digits (start .args .k) (start .args .x) (start .pre .1 .1) (omega arith) (omega arith)))
+      in
+      let first = puts-wrote (omega (arith, start .pre)) (high .put-byte2 .ensures) in
+      let second = puts-wrote (omega (arith, start .pre, fewer .0, first .ends, first .keeps)) (low .put-byte3 .ensures) in
+      (rw text at (wrote-then first second), omega (arith, fewer .0, first .ends, second .ends))
+
   put-digits-requires : put-digits-lts.Need-put-digits-requires claims (put-digits-at t) put-digits.Post
   put-digits-requires c κs =
-      let start = c .before .before .before in
+      let start = c .before .before .before .before in
       let fewer = fewer-digits (start .args .k) (start .args .x) (start .pre .1 .1) (omega arith) in
       (omega (arith, start .pre .0), (fewer .0, fewer .1, omega arith))
 
-  returns-2 : put-digits-lts.Need-returns-2 claims (put-digits-at t) put-digits.Post
-  returns-2 c =
+  returns-3 : put-digits-lts.Need-returns-3 claims (put-digits-at t) put-digits.Post
+  returns-3 c =
       let last = c .before .before in
       let digit = last .before in
       let put = digit .before .before .before .before in
-      let start = put .before .before .before .before in
-      let text : decimalIn (start .args .k - 1) (start .args .x / 10) ++ (digit .digit2 .result ∷ []) ≡ decimalIn (start .args .k) (start .args .x) =
-      rw (digit .digit2 .ensures) (sym (decimal-more (start .args .k) (start .args .x) (start .pre .1 .0) (omega arith)))
+      let start = put .before .before .before .before .before in
+      let text : decimalIn (start .args .k - 1) (start .args .x / 10) ++ (digit .digit4 .result ∷ []) ≡ decimalIn (start .args .k) (start .args .x) =
+      rw (digit .digit4 .ensures) (sym (decimal-more (start .args .k) (start .args .x) (start .pre .1 .0) (omega arith)))
       in
-      let wrote = puts-wrote (omega (arith, start .pre, put .put-digits .ensures .0 .keeps, put .put-digits .ensures .1)) (last .put-byte2 .ensures) in
+      let wrote = puts-wrote (omega (arith, start .pre, put .put-digits .ensures .0 .keeps, put .put-digits .ensures .1)) (last .put-byte4 .ensures) in
       (rw text at (wrote-then (put .put-digits .ensures .0) wrote), omega (arith, put .put-digits .ensures .1, wrote .ends))
 
 pub +put-digits-spec : {M : Type 1} → statement M
@@ -68,9 +82,15 @@ pub +put-digits-spec : {M : Type 1} → statement M
     (λ c κs. search needs)
     (λ c. search needs)
     (returns t)
+    (λ c κs. search needs)
+    (λ c κs. search needs)
+    (λ c κs. search needs)
+    (λ c κs. search needs)
+    (λ c. search needs)
+    (returns-2 t)
     (λ c. search needs)
     (put-digits-requires t)
     (λ c κs. search needs)
     (λ c κs. search needs)
     (λ c. search needs)
-    (returns-2 t)
+    (returns-3 t)
