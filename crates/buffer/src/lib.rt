@@ -61,25 +61,25 @@ fn store_u64(out: &mut [u8], at: usize, x: u64)
     store_u32(&mut *out, at + 4, (x / 4294967296) as u32);
 }
 
-// The numbers of a list, one behind another.
-fn store_u32s(out: &mut [u8], at: usize, list: &[u32])
-    requires { ⌜ at + 4 * length (now list) ≤ length (now out) ⌝ }
-    ensures { λ _. ⌜ Wrote (now (out .entry)) (now (out .exit)) at (at + 4 * length (now (list .entry))) (allBytes 4 (now (list .entry))) ⌝ }
+// The numbers of a list, four bytes each, and the words of one, eight bytes each: one behind another.
+fn store_numbers(out: &mut [u8], at: usize, numbers: &[u32])
+    requires { ⌜ at + 4 * length (now numbers) ≤ length (now out) ⌝ }
+    ensures { λ _. ⌜ Wrote (now (out .entry)) (now (out .exit)) at (at + 4 * length (now (numbers .entry))) (allBytes 4 (now (numbers .entry))) ⌝ }
 {
     let mut i: usize = 0;
-    while i < list.len() {
-        store_u32(&mut *out, at + 4 * i, list[i]);
+    while i < numbers.len() {
+        store_u32(&mut *out, at + 4 * i, numbers[i]);
         i += 1;
     }
 }
 
-fn store_u64s(out: &mut [u8], at: usize, list: &[u64])
-    requires { ⌜ at + 8 * length (now list) ≤ length (now out) ⌝ }
-    ensures { λ _. ⌜ Wrote (now (out .entry)) (now (out .exit)) at (at + 8 * length (now (list .entry))) (allBytes 8 (now (list .entry))) ⌝ }
+fn store_words(out: &mut [u8], at: usize, words: &[u64])
+    requires { ⌜ at + 8 * length (now words) ≤ length (now out) ⌝ }
+    ensures { λ _. ⌜ Wrote (now (out .entry)) (now (out .exit)) at (at + 8 * length (now (words .entry))) (allBytes 8 (now (words .entry))) ⌝ }
 {
     let mut i: usize = 0;
-    while i < list.len() {
-        store_u64(&mut *out, at + 8 * i, list[i]);
+    while i < words.len() {
+        store_u64(&mut *out, at + 8 * i, words[i]);
         i += 1;
     }
 }
@@ -135,25 +135,25 @@ pub fn put_u64(out: &mut [u8], at: usize, x: u64) -> usize
     at + 8
 }
 
-// All numbers of a list.
-pub fn put_u32s(out: &mut [u8], at: usize, list: &[u32]) -> usize
-    ensures { λ r. ⌜ Puts (now (out .entry)) (now (out .exit)) at r (allBytes 4 (now (list .entry))) ⌝ }
+// All numbers of a list, and all words of one.
+pub fn put_numbers(out: &mut [u8], at: usize, numbers: &[u32]) -> usize
+    ensures { λ r. ⌜ Puts (now (out .entry)) (now (out .exit)) at r (allBytes 4 (now (numbers .entry))) ⌝ }
 {
-    let size = 4 * list.len();
+    let size = 4 * numbers.len();
     if !fits(out.len(), at, size) {
         return at;
     }
-    store_u32s(&mut *out, at, list);
+    store_numbers(&mut *out, at, numbers);
     at + size
 }
 
-pub fn put_u64s(out: &mut [u8], at: usize, list: &[u64]) -> usize
-    ensures { λ r. ⌜ Puts (now (out .entry)) (now (out .exit)) at r (allBytes 8 (now (list .entry))) ⌝ }
+pub fn put_words(out: &mut [u8], at: usize, words: &[u64]) -> usize
+    ensures { λ r. ⌜ Puts (now (out .entry)) (now (out .exit)) at r (allBytes 8 (now (words .entry))) ⌝ }
 {
-    let size = 8 * list.len();
+    let size = 8 * words.len();
     if !fits(out.len(), at, size) {
         return at;
     }
-    store_u64s(&mut *out, at, list);
+    store_words(&mut *out, at, words);
     at + size
 }

@@ -105,14 +105,15 @@ pub left-alone : (file : Answer (List ℕ)) (k : ℕ) (out : List ℕ) → refus
 left-alone file k out e = rw (then-refused file length k e)
 
 -- ---- the ladder over the length alone, from its last rungs up
+abbrev pub long : List ℕ → List ℕ → ℕ
+long nodes cells = headLength + 8 * length nodes + 4 * length cells
+
 module _ (room : ℕ) (nodes cells : List ℕ) where
-  abbrev long : ℕ
-  long = headLength + 8 * length nodes + 4 * length cells
+  abbrev pub byRoom : Answer ℕ
+  byRoom = cond (ltb room (long nodes cells)) (refused 8) (answered (long nodes cells))
 
   abbrev pub byFault : Answer ℕ
-  byFault =
-      let fault = faultIn (meshOfLists nodes cells) in
-      cond (not (eqb fault 0)) (refused fault) (cond (ltb room long) (refused 8) (answered long))
+  byFault = let fault = faultIn (meshOfLists nodes cells) in cond (not (eqb fault 0)) (refused fault) byRoom
 
   abbrev pub byWhole : Answer ℕ
   byWhole = cond (not (isWhole nodeWords nodes)) (refused 8) (cond (not (isWhole cellNumbers cells)) (refused 8) byFault)

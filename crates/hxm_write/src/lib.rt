@@ -23,25 +23,25 @@ fn judge(nodes: &[u64], cells: &[u32], room: usize) -> Writing
     ensures { λ r. ⌜ told r ≡ lengthOf (fileInto room (now (nodes .entry)) (now (cells .entry))) ⌝ }
 {
     if nodes.len() > MOST_WORDS {
-        return Writing::Refused(7);
+        return Writing::Refused(7); // too many nodes
     }
     if cells.len() > MOST_NUMBERS {
-        return Writing::Refused(7);
+        return Writing::Refused(7); // too many cells
     }
     let n = (nodes.len() / NODE_WORDS) as u32;
     let end = HEAD_LENGTH + 8 * nodes.len() + 4 * cells.len();
     if nodes.len() % NODE_WORDS != 0 {
-        return Writing::Refused(8);
+        return Writing::Refused(8); // no whole nodes
     }
     if cells.len() % CELL_NUMBERS != 0 {
-        return Writing::Refused(8);
+        return Writing::Refused(8); // no whole cells
     }
     let fault = faults::first_fault(n, cells);
     if fault != 0 {
         return Writing::Refused(fault);
     }
     if room < end {
-        return Writing::Refused(8);
+        return Writing::Refused(8); // no room
     }
     Writing::Length(end as u32)
 }
@@ -71,8 +71,8 @@ pub fn write(nodes: &[u64], cells: &[u32], out: &mut [u8]) -> Writing
                 (nodes.len() / NODE_WORDS) as u32,
                 (cells.len() / CELL_NUMBERS) as u32,
             );
-            let behind = buffer::put_u64s(&mut *out, head, nodes);
-            buffer::put_u32s(&mut *out, behind, cells);
+            let behind = buffer::put_words(&mut *out, head, nodes);
+            buffer::put_numbers(&mut *out, behind, cells);
             Writing::Length(n)
         }
         Writing::Refused(k) => Writing::Refused(k),

@@ -39,7 +39,7 @@ returns c =
     let nodes = cells .before .before .before .before in
     let head = nodes .before .before .before .before in
     let told = head .before .before in
-    (answer told, left-by (file told) (head .put-head .ensures) (nodes .put-u64s .ensures) (cells .put-u32s .ensures))
+    (answer told, left-by (file told) (head .put-head .ensures) (nodes .put-words .ensures) (cells .put-numbers .ensures))
 
 returns-2 : tie.Need-returns-2
 returns-2 c =

@@ -1,24 +1,24 @@
--- `buffer::store_u64s` meets its contract: the first i numbers are written. Assumes nothing.
+-- `buffer::store_words` meets its contract: the first i words are written. Assumes nothing.
 use Prim.Native.Nat.{_-_}
 use native.Mathlib.Omega.{arith}
 use lib.ListN.{length}
 use Rattle.buffer.proofs.Writing.{Laid, laid-none, laid-more, laid-all}
-use Rattle.buffer.proofs.store_u64s.Statement.{statement}
-use Rattle.buffer.proofs.store_u64s.Tie as tie
+use Rattle.buffer.proofs.store_words.Statement.{statement}
+use Rattle.buffer.proofs.store_words.Tie as tie
 
 abbrev Inv-loop : tie.InvT-loop
-Inv-loop out₀ at list i₀ out i = Laid 8 list out₀ out at i
+Inv-loop out₀ at words i₀ out i = Laid 8 words out₀ out at i
 
 abbrev μ-loop : tie.MeasureT-loop
-μ-loop out₀ at list i₀ out i = length list - i
+μ-loop out₀ at words i₀ out i = length words - i
 
 loop-again : tie.Need-loop-again Inv-loop μ-loop
 loop-again c =
     let turn = c .before .before .before .before .before .before in
-    laid-more 8 (turn .before .before .before .args .list .now) (turn .loop .inv) (omega arith) (c .before .before .store-u64 .ensures)
+    laid-more 8 (turn .before .before .before .args .words .now) (turn .loop .inv) (omega arith) (c .before .before .store-u64 .ensures)
 
-pub store-u64s-spec : {M : Type 1} → statement M
-store-u64s-spec =
+pub store-words-spec : {M : Type 1} → statement M
+store-words-spec =
     tie.close
     (tie.spec
     Inv-loop

@@ -1,24 +1,24 @@
--- `buffer::store_u32s` meets its contract: the first i numbers are written. Assumes nothing.
+-- `buffer::store_numbers` meets its contract: the first i numbers are written. Assumes nothing.
 use Prim.Native.Nat.{_-_}
 use native.Mathlib.Omega.{arith}
 use lib.ListN.{length}
 use Rattle.buffer.proofs.Writing.{Laid, laid-none, laid-more, laid-all}
-use Rattle.buffer.proofs.store_u32s.Statement.{statement}
-use Rattle.buffer.proofs.store_u32s.Tie as tie
+use Rattle.buffer.proofs.store_numbers.Statement.{statement}
+use Rattle.buffer.proofs.store_numbers.Tie as tie
 
 abbrev Inv-loop : tie.InvT-loop
-Inv-loop out₀ at list i₀ out i = Laid 4 list out₀ out at i
+Inv-loop out₀ at numbers i₀ out i = Laid 4 numbers out₀ out at i
 
 abbrev μ-loop : tie.MeasureT-loop
-μ-loop out₀ at list i₀ out i = length list - i
+μ-loop out₀ at numbers i₀ out i = length numbers - i
 
 loop-again : tie.Need-loop-again Inv-loop μ-loop
 loop-again c =
     let turn = c .before .before .before .before .before .before in
-    laid-more 4 (turn .before .before .before .args .list .now) (turn .loop .inv) (omega arith) (c .before .before .store-u32 .ensures)
+    laid-more 4 (turn .before .before .before .args .numbers .now) (turn .loop .inv) (omega arith) (c .before .before .store-u32 .ensures)
 
-pub store-u32s-spec : {M : Type 1} → statement M
-store-u32s-spec =
+pub store-numbers-spec : {M : Type 1} → statement M
+store-numbers-spec =
     tie.close
     (tie.spec
     Inv-loop

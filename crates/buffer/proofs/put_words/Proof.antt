@@ -1,29 +1,29 @@
--- `buffer::put_u32s` meets its contract: where there is room for all of them, the numbers are stored. Assumes nothing.
+-- `buffer::put_words` meets its contract: where there is room for all of them, the words are stored. Assumes nothing.
 use Prim.Native.Nat.{_*_}
 use native.Mathlib.Omega.{arith}
 use borrow.Author.Needs.{needs}
 use lib.ListN.{length}
 use Rattle.numbers.proofs.Little.{length-all-bytes}
 use Rattle.buffer.proofs.Writing.{puts-nothing, puts-written, fits-below}
-use Rattle.buffer.proofs.put_u32s.Statement.{statement}
-use Rattle.buffer.proofs.put_u32s.Tie as tie
+use Rattle.buffer.proofs.put_words.Statement.{statement}
+use Rattle.buffer.proofs.put_words.Tie as tie
 
 returns : tie.Need-returns
-returns c = puts-nothing _ _ (length-all-bytes 4 _) (c .before .fits2 .ensures) (c .if1 .taken)
+returns c = puts-nothing _ _ (length-all-bytes 8 _) (c .before .fits2 .ensures) (c .if1 .taken)
 
 add-result : tie.Need-add-result
 add-result c =
     let some = c .before .before .before .before in
     let args = some .before .before .before .before .args in
-    omega (arith, fits-below (args .at) (4 * length (args .list .now)) (length (args .out .now)) _ (some .before .fits2 .ensures) (some .if1 .left))
+    omega (arith, fits-below (args .at) (8 * length (args .words .now)) (length (args .out .now)) _ (some .before .fits2 .ensures) (some .if1 .left))
 
 returns-2 : tie.Need-returns-2
 returns-2 c =
     let some = c .before .before .before .before in
-    puts-written _ _ (length-all-bytes 4 _) (some .before .fits2 .ensures) (some .if1 .left) (c .before .before .store-u32s .ensures)
+    puts-written _ _ (length-all-bytes 8 _) (some .before .fits2 .ensures) (some .if1 .left) (c .before .before .store-words .ensures)
 
-pub put-u32s-spec : {M : Type 1} → statement M
-put-u32s-spec =
+pub put-words-spec : {M : Type 1} → statement M
+put-words-spec =
     tie.close
     (tie.spec
     (λ c. search needs)
