@@ -79,6 +79,9 @@ module _ {before : List ℕ} {at : ℕ} {text : List ℕ} where
       let yes : hasRoom before at text ≡ true = room-is before at text size test long is ∙ not-false test some in
       record { buffer = rw yes (wrote-is w); place = rw yes (w .ends) }
 
+pub puts-as : {before after : List ℕ} {at end : ℕ} {t u : List ℕ} → t ≡ u → Puts before after at end t → Puts before after at end u
+puts-as e p = rw e at p
+
 -- the place is not added to where it may be any number
 pub fits-behind : (room at size : ℕ) → at ≤ room → leb size (room - at) ≡ leb (at + size) room
 fits-behind room at size within = by (leb (at + size) room) refl

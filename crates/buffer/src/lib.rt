@@ -115,26 +115,6 @@ pub fn put_u16(out: &mut [u8], at: usize, x: u16) -> usize
     at + 2
 }
 
-pub fn put_u32(out: &mut [u8], at: usize, x: u32) -> usize
-    ensures { λ r. ⌜ Puts (now (out .entry)) (now (out .exit)) at r (bytes 4 x) ⌝ }
-{
-    if !fits(out.len(), at, 4) {
-        return at;
-    }
-    store_u32(&mut *out, at, x);
-    at + 4
-}
-
-pub fn put_u64(out: &mut [u8], at: usize, x: u64) -> usize
-    ensures { λ r. ⌜ Puts (now (out .entry)) (now (out .exit)) at r (bytes 8 x) ⌝ }
-{
-    if !fits(out.len(), at, 8) {
-        return at;
-    }
-    store_u64(&mut *out, at, x);
-    at + 8
-}
-
 // All numbers of a list, and all words of one.
 pub fn put_numbers(out: &mut [u8], at: usize, numbers: &[u32]) -> usize
     ensures { λ r. ⌜ Puts (now (out .entry)) (now (out .exit)) at r (allBytes 4 (now (numbers .entry))) ⌝ }
@@ -156,4 +136,19 @@ pub fn put_words(out: &mut [u8], at: usize, words: &[u64]) -> usize
     }
     store_words(&mut *out, at, words);
     at + size
+}
+
+// A number of four bytes, and one of eight.
+pub fn put_u32(out: &mut [u8], at: usize, x: u32) -> usize
+    ensures { λ r. ⌜ Puts (now (out .entry)) (now (out .exit)) at r (bytes 4 x) ⌝ }
+{
+    let one = [x];
+    put_numbers(out, at, &one)
+}
+
+pub fn put_u64(out: &mut [u8], at: usize, x: u64) -> usize
+    ensures { λ r. ⌜ Puts (now (out .entry)) (now (out .exit)) at r (bytes 8 x) ⌝ }
+{
+    let one = [x];
+    put_words(out, at, &one)
 }

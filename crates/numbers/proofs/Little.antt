@@ -93,10 +93,14 @@ pub byte-is : (b : ℕ) → b < 256 → bytes 1 b ≡ b ∷ []
 unfolding bytes
 byte-is b h = let low : b % 256 ≡ b = omega arith in rw low
 
+pub all-bytes-one : (w x : ℕ) → allBytes w (x ∷ []) ≡ bytes w x
+unfolding allBytes
+all-bytes-one w x = append-nil (bytes w x)
+
 -- one number more
 all-bytes-behind : (w : ℕ) (xs : List ℕ) (x : ℕ) → allBytes w (xs ++ (x ∷ [])) ≡ allBytes w xs ++ bytes w x
 unfolding allBytes
-all-bytes-behind w [] x = append-nil (bytes w x)
+all-bytes-behind w [] x = all-bytes-one w x
 all-bytes-behind w (y ∷ ys) x = rw (all-bytes-behind w ys x) (sym (append-assoc (bytes w y) (allBytes w ys) (bytes w x)))
 
 pub all-bytes-more : (w : ℕ) (xs : List ℕ) (i : ℕ) → i < length xs → allBytes w (take i xs) ++ bytes w (getD xs i 0) ≡ allBytes w (take (i + 1) xs)
