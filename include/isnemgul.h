@@ -16,7 +16,7 @@
 #include <stddef.h>
 #include <stdint.h>
 
-#define ISN_VERSION "0.1.0"
+#define ISN_VERSION "0.2.0"
 
 /* Limits. Nothing allocates, so each is fixed; beyond one the answer is ISN_REFUSED_LIMIT. */
 #define ISN_MAX_NODES 1024    /* nodes in a mesh */

@@ -14,7 +14,8 @@ use Rattle.numbers.proofs.Stored.{length-tabulate}
 use Rattle.answer.specs.Answer.{Answer, answered, refused}
 use Rattle.answer.proofs.Answers.{unless, then-unless, then-refused}
 use Rattle.faults.specs.Faults.{firstFault}
-use Rattle.hxm.specs.Format.{mostNodes, mostCells, mostWords, mostNumbers, nodeWords, cellNumbers, nodeBytes, cellBytes, headLength, Mesh, version, nodeCount, cellCount, cellsFrom, fileLength, marked, faultOf, meshAt, meshOf}
+use Rattle.hxm.specs.Format.{mostNodes, mostCells, mostWords, mostNumbers, nodeWords, cellNumbers, nodeBytes, cellBytes, Mesh, headLength}
+use Rattle.hxm.specs.Format.{version, nodeCount, cellCount, cellsFrom, fileLength, marked, faultOf, meshAt, meshOf}
 use Rattle.hxm.specs.Reads.{counts, meshInto, Reads, ToldLosesNothing}
 use Rattle.hxm.specs.declared.Reading.the-variants.{Mesh as Counts, Refused}
 
@@ -125,20 +126,20 @@ module _ (coords corners : ℕ) (s : List ℕ) where
   into-refused k e = rw e
 
   module _ (n c : ℕ) (file : Counted s n c) where
-    by-room : meshInto coords corners s ≡ cond (ltb coords (3 * n) || ltb corners (8 * c)) (refused 8) (answered (meshAt s))
+    by-room : meshInto coords corners s ≡ cond (ltb coords (nodeWords * n) || ltb corners (cellNumbers * c)) (refused 8) (answered (meshAt s))
     unfolding meshInto meshAt
     by-room = rw (passed-accepted s (file .passed), file .nodes, file .cells)
 
-    pub into-short-nodes : coords < 3 * n → meshInto coords corners s ≡ refused 8
+    pub into-short-nodes : coords < nodeWords * n → meshInto coords corners s ≡ refused 8
     into-short-nodes short = rw (by-room, lt-ltb coords (3 * n) short)
 
-    pub into-short-cells : 3 * n ≤ coords → corners < 8 * c → meshInto coords corners s ≡ refused 8
+    pub into-short-cells : nodeWords * n ≤ coords → corners < cellNumbers * c → meshInto coords corners s ≡ refused 8
     into-short-cells room short = rw (by-room, le-ltb coords (3 * n) room, lt-ltb corners (8 * c) short)
 
-    into-answered : 3 * n ≤ coords → 8 * c ≤ corners → meshInto coords corners s ≡ answered (meshAt s)
+    into-answered : nodeWords * n ≤ coords → cellNumbers * c ≤ corners → meshInto coords corners s ≡ answered (meshAt s)
     into-answered room space = rw (by-room, le-ltb coords (3 * n) room, le-ltb corners (8 * c) space)
 
-    pub written : (nodes nodes′ cells cells′ : List ℕ) → 3 * n ≤ coords → 8 * c ≤ corners
+    pub written : (nodes nodes′ cells cells′ : List ℕ) → nodeWords * n ≤ coords → cellNumbers * c ≤ corners
         → nodes′ ≡ numbersAt s 8 13 (3 * n) ++ drop (3 * n) nodes
         → cells′ ≡ numbersAt s 4 (13 + 24 * n) (8 * c) ++ drop (8 * c) cells
         → Reads (meshInto coords corners s) (Counts n c) nodes nodes′ cells cells′

@@ -5,27 +5,31 @@ ghost use Prim.Native.Nat.{_+_, _*_, _<_, _≤_};
 ghost use lib.ListN.{length, drop};
 ghost use Rattle.numbers.specs.Little.{numberAt, numbersAt};
 ghost use Rattle.faults.specs.Faults.{firstFault};
-ghost use Rattle.hxm.specs.Format.{marked, meshOf};
+ghost use Rattle.hxm.specs.Format.{cellNumbers, cellBytes, marked, meshOf};
 ghost use Rattle.hxm.specs.Reads.{told, counts, meshInto, Reads};
 
-// How long the head is, the most nodes and cells that a mesh may have, and how many words a node and numbers a cell has.
+// How long the head is.
 pub const HEAD_LENGTH: usize = 13;
 
+// The most nodes and cells that a mesh may have.
 pub const MOST_NODES: u32 = 1024;
 
 pub const MOST_CELLS: u32 = 128;
 
+// How many words a node has, and numbers a cell.
 pub const NODE_WORDS: usize = 3;
 
 pub const CELL_NUMBERS: usize = 8;
-// So a node and a cell are so many bytes,
-const NODE_BYTES: usize = 8 * NODE_WORDS;
 
-const CELL_BYTES: usize = 4 * CELL_NUMBERS;
-// and a mesh has at most so many words and numbers.
+// So the most words and numbers,
 pub const MOST_WORDS: usize = NODE_WORDS * (MOST_NODES as usize);
 
 pub const MOST_NUMBERS: usize = CELL_NUMBERS * (MOST_CELLS as usize);
+
+// and how many bytes a node has, and a cell.
+const NODE_BYTES: usize = 8 * NODE_WORDS;
+
+const CELL_BYTES: usize = 4 * CELL_NUMBERS;
 
 // How many nodes and cells a file holds, or a refusal's number.
 pub enum Reading {
@@ -101,22 +105,22 @@ fn put_numbers(bytes: &[u8], at: usize, count: usize, out: &mut [u32])
 
 // The eight numbers of the cell that begins at `at`.
 fn cell_at(bytes: &[u8], at: usize) -> [u32; 8]
-    requires { ⌜ at + 32 ≤ length (now bytes) ⌝ }
-    ensures { λ r. ⌜ r ≡ numbersAt (now (bytes .entry)) 4 at 8 ⌝ }
+    requires { ⌜ at + cellBytes ≤ length (now bytes) ⌝ }
+    ensures { λ r. ⌜ r ≡ numbersAt (now (bytes .entry)) 4 at cellNumbers ⌝ }
 {
     let mut cell = [0u32; 8];
-    put_numbers(bytes, at, 8, &mut cell);
+    put_numbers(bytes, at, CELL_NUMBERS, &mut cell);
     cell
 }
 
 // The first fault of `count` cells that begin at `at`. Each is looked at in a copy, so that a refusal leaves the lent lists alone.
 fn fault_at(bytes: &[u8], at: usize, count: usize, n: u32) -> u32
-    requires { ⌜ at + 32 * count ≤ length (now bytes) ⌝ }
-    ensures { λ r. ⌜ r ≡ firstFault n 8 (numbersAt (now (bytes .entry)) 4 at (8 * count)) ⌝ }
+    requires { ⌜ at + cellBytes * count ≤ length (now bytes) ⌝ }
+    ensures { λ r. ⌜ r ≡ firstFault n cellNumbers (numbersAt (now (bytes .entry)) 4 at (cellNumbers * count)) ⌝ }
 {
     let mut c: usize = 0;
     while c < count {
-        let fault = faults::fault_of(n, cell_at(bytes, at + 32 * c));
+        let fault = faults::fault_of(n, cell_at(bytes, at + CELL_BYTES * c));
         if fault != 0 {
             return fault;
         }

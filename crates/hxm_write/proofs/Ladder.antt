@@ -95,8 +95,9 @@ unfolding bytes
 left-by {nodes} {cells} {out} w head words numbers =
     let s = fileOf (meshOfLists nodes cells) in
     let long : headLength + 8 * length nodes + 4 * length cells ≤ length out = omega (arith, length-file (meshOfLists nodes cells), w .fits) in
-    let first = puts-wrote (rw (length-all-bytes 8 nodes) (omega (arith, head .ends, head .keeps))) words in
-    let more = puts-wrote (rw (length-all-bytes 4 cells) (omega (arith, head .ends, head .keeps, first .ends, first .keeps, length-all-bytes 8 nodes))) numbers in
+    let size = length-all-bytes 8 nodes in
+    let first = puts-wrote (rw size (omega (arith, head .ends, head .keeps))) words in
+    let more = puts-wrote (rw (length-all-bytes 4 cells) (omega (arith, head .ends, head .keeps, first .ends, first .keeps, size))) numbers in
     let start : 0 + length s ≡ length s = omega arith in
     rw (answers (length out) nodes cells s w) (rw start at (wrote-is (wrote-then head (wrote-then first more))))
 

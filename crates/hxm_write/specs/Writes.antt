@@ -9,11 +9,11 @@ use Rattle.hxm.specs.Format.{mostWords, mostNumbers, nodeWords, cellNumbers, Me
 use Rattle.hxm_write.specs.declared.Writing.{Writing}
 use Rattle.hxm_write.specs.declared.Writing.the-variants.{Length, Refused}
 
--- the mesh of two flat lists: nobody states a count
+-- "from node and cell lists": the mesh of two flat lists. Nobody states a count: there are as many nodes and cells as the lists hold.
 abbrev pub meshOfLists : List ℕ → List ℕ → Mesh
 meshOfLists nodes cells = record { nodes = length nodes / nodeWords; cells = length cells / cellNumbers; coords = nodes; corners = cells }
 
--- a list of so many numbers an item
+-- a list of whole items, of so many numbers each
 abbrev pub isWhole : ℕ → List ℕ → Bool
 isWhole width list = eqb (length list % width) 0
 

@@ -9,7 +9,7 @@ ghost use Prim.Native.Nat.{_≤_};
 ghost use lib.ListN.{length};
 ghost use Rattle.answer.specs.Answer.{left};
 ghost use Rattle.buffer.specs.Put.{Wrote};
-ghost use Rattle.hxm.specs.Format.{headOf};
+ghost use Rattle.hxm.specs.Format.{headLength, headOf};
 ghost use Rattle.hxm_write.specs.Writes.{told, lengthOf, fileInto};
 
 // The length of the file that was written, or a refusal's number.
@@ -48,7 +48,7 @@ fn judge(nodes: &[u64], cells: &[u32], room: usize) -> Writing
 
 // Writes the head of a file, and answers the place behind it.
 fn put_head(out: &mut [u8], version: u16, nodes: u32, cells: u32) -> usize
-    requires { ⌜ 13 ≤ length (now out) ⌝ }
+    requires { ⌜ headLength ≤ length (now out) ⌝ }
     ensures { λ r. ⌜ Wrote (now (out .entry)) (now (out .exit)) 0 r (headOf version nodes cells) ⌝ }
 {
     let mark = buffer::put_bytes(&mut *out, 0, b"HXM");

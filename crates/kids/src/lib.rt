@@ -1,4 +1,7 @@
 // What `hexkids` prints. The private functions write text into a buffer, from a place on, and answer the place behind it.
+use hxm::CELL_NUMBERS;
+use hxm::MOST_NUMBERS;
+use hxm::MOST_WORDS;
 use hxm::Reading;
 use refine::Refined;
 ghost use mathlib.Core.Path.{_≡_};
@@ -121,11 +124,11 @@ pub fn list(bytes: &[u8], out: &mut [u8; 90146]) -> usize
     ensures text { λ r. ⌜ Wrote (now (out .entry)) (now (out .exit)) 0 r (printed (now (bytes .entry))) ⌝ }
     ensures within { λ r. ⌜ (r ≤ length (now (out .exit))) × (r ≡ length (take r (now (out .exit)))) ⌝ }
 {
-    let mut nodes = [0u64; 3072];
-    let mut cells = [0u32; 1024];
+    let mut nodes = [0u64; MOST_WORDS];
+    let mut cells = [0u32; MOST_NUMBERS];
     match hxm::read(bytes, &mut nodes, &mut cells) {
         Reading::Mesh(n, c) => {
-            let count = 8 * (c as usize);
+            let count = CELL_NUMBERS * (c as usize);
             put_children(out, n, &cells[..count])
         }
         Reading::Refused(k) => put_refused(out, k),

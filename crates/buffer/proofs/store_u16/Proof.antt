@@ -12,7 +12,9 @@ returns c =
     let high = c .before .before in
     let low = high .before .before .before .before in
     let x = low .before .before .before .args .x in
-    wrote-on (omega arith) (bytes-halves 1 x) (wrote-as (sym (byte-is _ (omega arith))) (low .store-byte .ensures)) (wrote-as (sym (byte-is _ (omega arith))) (high .store-byte2 .ensures))
+    wrote-on (omega arith) (bytes-halves 1 x)
+    (wrote-as (sym (byte-is _ (omega arith))) (low .store-byte .ensures))
+    (wrote-as (sym (byte-is _ (omega arith))) (high .store-byte2 .ensures))
 
 pub store-u16-spec : {M : Type 1} → statement M
 store-u16-spec =
