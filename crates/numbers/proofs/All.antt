@@ -1,12 +1,13 @@
--- What passes at every number below a bound, one number at a time. Assumes nothing.
+-- What passes at every number below a bound, or at one of them, one number at a time. Assumes nothing.
 use Prim.Native.Nat.{ℕ, zero, suc, _+_, _<_}
 use native.Mathlib.Nat.{eq-or-lt-of-le, le-of-suc-le-suc, not-suc-le-zero}
 use native.Mathlib.Numerals.{add-one}
 use native.Mathlib.Omega.{arith}
-use mathlib.Core.Path.{_≡_, refl}
-use mathlib.Core.Bool.{Bool, true, false, not, _&&_, _||_}
+use mathlib.Core.Path.{_≡_, refl, sym}
+use mathlib.Core.Bool.{Bool, true, false, not, _&&_, _||_, or-true}
 use mathlib.Core.Logic.{⊎-elim}
-use Rattle.numbers.specs.Rule.{all}
+use Rattle.numbers.specs.Rule.{all, any}
+use Rattle.numbers.proofs.Cases.{cases, never}
 use Rattle.numbers.proofs.Tests.{holds, is-true, first, second, all-at}
 
 pub left-true : (a b : Bool) → (a && b) ≡ true → a ≡ true
@@ -53,3 +54,23 @@ module _ (p : ℕ → Bool) where
 pub all-alike : (p q : ℕ → Bool) (n : ℕ) → ((k : ℕ) → k < n → p k ≡ q k) → all n p ≡ all n q
 all-alike p q zero f = refl
 all-alike p q (suc n) f = rw (f n (omega arith), all-alike p q n (λ k h. f k (omega arith)))
+
+module _ (p : ℕ → Bool) where
+  pub any-found : (n : ℕ) → any n p ≡ true → (k : ℕ) × (k < n) × (p k ≡ true)
+  any-found zero t = never (sym t)
+  any-found (suc n) t =
+      cases (p n)
+      (λ here. (n, omega arith, here))
+      (λ f. let more = any-found n (rw f at t) in (more .0, omega (arith, more .1), more .2))
+
+  pub any-has : (n k : ℕ) → k < n → p k ≡ true → any n p ≡ true
+  any-has zero k h e = absurd (not-suc-le-zero h)
+  any-has (suc n) k h e =
+      ⊎-elim
+      (λ (same : k ≡ n). rw (← same, e))
+      (λ (below : k < n). rw (any-has n k below e) (or-true (p n)))
+      (eq-or-lt-of-le (le-of-suc-le-suc h))
+
+pub any-alike : (p q : ℕ → Bool) (n : ℕ) → ((k : ℕ) → k < n → p k ≡ q k) → any n p ≡ any n q
+any-alike p q zero f = refl
+any-alike p q (suc n) f = rw (f n (omega arith), any-alike p q n (λ k h. f k (omega arith)))

@@ -4,13 +4,17 @@ use native.Mathlib.Nat.{le-of-suc-le-suc, not-suc-le-zero, eq-or-lt-of-le}
 use native.Mathlib.Numerals.{add-one}
 use native.Mathlib.Omega.{arith}
 use mathlib.Core.Path.{_≡_, refl, sym, ap, _∙_}
-use mathlib.Core.Bool.{Bool, true, false, _||_, or-assoc, or-false}
+use mathlib.Core.Bool.{Bool, true, false, not, _||_, or-assoc, or-false, or-true}
 use mathlib.Core.List.{List, [], _∷_, _++_, append-assoc, append-nil}
 use mathlib.Core.Logic.{⊎-elim}
-use lib.ListN.{length, length-append}
-use Rattle.numbers.proofs.Cases.{cases, never}
+use borrow.Author.Tests.{eqb-true}
+use lib.Dec.{eqb}
+use lib.ListN.{length, getD, length-append}
+use Rattle.numbers.proofs.All.{left-true, right-true}
+use Rattle.numbers.proofs.Cases.{cases, never, is-false}
+use Rattle.numbers.proofs.Every.{Every, every-append, every-then, every-both}
 use Rattle.numbers.specs.Rule.{placeOf}
-use Rattle.numbers.specs.FirstMet.{among, meet, Sameness}
+use Rattle.numbers.specs.FirstMet.{among, apart, meet, Sameness}
 
 module _ {A : Type 0} (same : A → A → Bool) where
   pub among-append : (xs ys : List A) (x : A) → among same (xs ++ ys) x ≡ (among same xs x || among same ys x)
@@ -59,6 +63,12 @@ module _ {A : Type 0} (same : A → A → Bool) where
 
   pub place-kept : (met xs : List A) (x : A) → among same met x ≡ true → placeOf same (meet same met xs) x ≡ placeOf same met x
   place-kept met xs x h = let more = grows xs met in rw (more .1) (place-front met (more .0) x h)
+
+-- at the place of a number stands the number
+pub place-holds : (xs : List ℕ) (x : ℕ) → placeOf eqb xs x < length xs → getD xs (placeOf eqb xs x) 0 ≡ x
+place-holds [] x within = absurd (omega arith)
+place-holds (y ∷ ys) x within =
+    cases (eqb y x) (λ t. rw t (eqb-true y x t)) (λ f. rw f (place-holds ys x (le-of-suc-le-suc (rw f at within))))
 
 module _ {A : Type 0} (same : A → A → Bool) (s : Sameness same) where
   -- things that are the same are the same as the same things
@@ -138,3 +148,48 @@ module _ {A : Type 0} (same : A → A → Bool) (s : Sameness same) where
 
   pub none-yet : Full []
   none-yet k below = absurd (not-suc-le-zero below)
+
+-- Two samenesses that agree on what is met meet the same things, at the same places.
+module _ {A : Type 0} (same same′ : A → A → Bool) (P : A → Type 0) (agree : (x y : A) → P x → P y → same x y ≡ same′ x y) where
+  among-agree : (xs : List A) (x : A) → Every P xs → P x → among same xs x ≡ among same′ xs x
+  among-agree [] x h k = refl
+  among-agree (y ∷ xs) x h k = rw (agree y x (h .0) k, among-agree xs x (h .1) k)
+
+  pub place-agree : (xs : List A) (x : A) → Every P xs → P x → placeOf same xs x ≡ placeOf same′ xs x
+  place-agree [] x h k = refl
+  place-agree (y ∷ xs) x h k = rw (agree y x (h .0) k, place-agree xs x (h .1) k)
+
+  pub meet-agree : (met xs : List A) → Every P met → Every P xs → (meet same met xs ≡ meet same′ met xs) × Every P (meet same met xs)
+  unfolding meet
+  meet-agree met [] m h = (refl, m)
+  meet-agree met (x ∷ xs) m h =
+      let alike = among-agree met x m (h .0) in
+      cases (among same met x)
+      (λ t. rw (t, sym alike ∙ t) (meet-agree met xs m (h .1)))
+      (λ f. rw (f, sym alike ∙ f) (meet-agree (met ++ (x ∷ [])) xs (every-append P met (x ∷ []) m (h .0, tt)) (h .1)))
+
+-- For what no thing has with itself, and has either way round: no two have it exactly when none has it with any.
+module _ {A : Type 0} (pair : A → A → Bool) (never-itself : (x : A) → pair x x ≡ false) (either-way : (x y : A) → pair x y ≡ pair y x) where
+  with-none : (xs : List A) (x : A) → among pair xs x ≡ false → Every (λ (y : A). pair y x ≡ false) xs
+  with-none [] x h = tt
+  with-none (y ∷ xs) x h =
+      let not-this : pair y x ≡ false = is-false (pair y x) (λ t. never (rw t at h)) in
+      (not-this, with-none xs x (rw not-this at h))
+
+  pub apart-none : (xs : List A) → apart pair xs ≡ true → Every (λ (x : A). among pair xs x ≡ false) xs
+  apart-none [] h = tt
+  apart-none (x ∷ xs) h =
+      let fresh : among pair xs x ≡ false = is-false (among pair xs x) (λ t. never (sym (rw t at (left-true (not (among pair xs x)) (apart pair xs) h)))) in (
+        rw (never-itself x) fresh,
+        every-both (λ (y : A). pair y x ≡ false) (λ (y : A). among pair xs y ≡ false) (λ (y : A). among pair (x ∷ xs) y ≡ false)
+        (λ y one others. rw (either-way x y ∙ one) others)
+        xs (with-none xs x fresh) (apart-none xs (right-true (not (among pair xs x)) (apart pair xs) h)),
+      )
+
+  pub none-apart : (xs : List A) → Every (λ (x : A). among pair xs x ≡ false) xs → apart pair xs ≡ true
+  none-apart [] h = refl
+  none-apart (x ∷ xs) h =
+      let rest : (y : A) → among pair (x ∷ xs) y ≡ false → among pair xs y ≡ false =
+      λ y none. is-false (among pair xs y) (λ t. never (sym (or-true (pair x y)) ∙ rw t at none)) in
+      rw (rest x (h .0))
+      (none-apart xs (every-then (λ (y : A). among pair (x ∷ xs) y ≡ false) (λ (y : A). among pair xs y ≡ false) rest xs (h .1)))

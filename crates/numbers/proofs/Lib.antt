@@ -1,6 +1,7 @@
 pub mod All
 pub mod Bits
 pub mod Cases
+pub mod Every
 pub mod Fill
 pub mod FirstMet
 pub mod Fold

@@ -1,6 +1,6 @@
 -- Lists that are given by a rule over the index. Definitions only.
 use Prim.Native.Nat.{ℕ, zero, suc, _+_, _*_, _/_, _%_}
-use mathlib.Core.Bool.{Bool, true, _&&_, cond}
+use mathlib.Core.Bool.{Bool, true, false, _&&_, _||_, cond}
 use mathlib.Core.List.{List, [], _∷_}
 use lib.Dec.{eqb}
 
@@ -27,6 +27,11 @@ count (suc n) p = cond (p n) 1 0 + count n p
 abbrev pub all : ℕ → (ℕ → Bool) → Bool
 all zero p = true
 all (suc n) p = p n && all n p
+
+-- one of 0 .. n - 1 passes
+abbrev pub any : ℕ → (ℕ → Bool) → Bool
+any zero p = false
+any (suc n) p = p n || any n p
 
 -- the list less the number j
 abbrev pub without : ℕ → List ℕ → List ℕ
