@@ -11,20 +11,34 @@ use borrow.Author.Tests.{eq-eqb, ne-eqb, eqb-true, eqb-false, ltb-true, ltb-fals
 use lib.Dec.{T, eqb, ltb, ltb→lt}
 use lib.ListN.{getD}
 use Rattle.numbers.specs.Rule.{all}
-use Rattle.numbers.proofs.Cases.{cases, never, fails}
+use Rattle.numbers.proofs.Cases.{cases, never, is-false, fails}
 use Rattle.numbers.proofs.Table.{at}
 use Rattle.numbers.proofs.Tests.{first, second, all-at, all-at-pair}
 use Rattle.cell.specs.Edges.{end}
 use Rattle.faults.specs.Faults.{node, Sound}
 use Rattle.hex.specs.Cube.{edges, idx2node}
 use Rattle.numbers.specs.FirstMet.{among, apart}
-use Rattle.numbering.specs.Refinement.{within, sameNodes, edgeCorners, faceCorners, edgeNodes, faceNodes, OwnDiffer}
-use Rattle.numbering.proofs.Same.{faces-same}
+use Rattle.numbering.specs.Refinement.{within, sameNodes, sameRing, edgeCorners, faceCorners, edgeNodes, faceNodes, OwnDiffer}
+use Rattle.numbering.proofs.Same.{ring-nodes}
 
 -- different node numbers of n
 pub record Different (n : ℕ) (ps : List ℕ) : Type 0 where
   pub below : (x : ℕ) → among eqb ps x ≡ true → x < n
   pub differ : T (apart eqb ps)
+
+-- Numbers by rule of which no two are the same tell their places.
+module _ (w : ℕ) (f : ℕ → ℕ) (apart : (i k : ℕ) → i < k → k < w → f i ≡ f k → ⊥) where
+  differ : (i k : ℕ) → i < w → k < w → f i ≡ f k → i ≡ k
+  differ i k hi hk e =
+      cases (ltb i k)
+      (λ l. absurd (apart i k (ltb-true i k l) hk e))
+      (λ l. ⊎-elim (λ (q : k ≡ i). sym q) (λ (less : k < i). absurd (apart k i less hi (sym e))) (eq-or-lt-of-le (ltb-false i k l)))
+
+  pub eqb-map : (i k : ℕ) → i < w → k < w → eqb (f i) (f k) ≡ eqb i k
+  eqb-map i k hi hk =
+      cases (eqb i k)
+      (λ t. eq-eqb (f i) (f k) (ap f (eqb-true i k t)) ∙ sym t)
+      (λ n. ne-eqb (f i) (f k) (λ e. eqb-false i k n (differ i k hi hk e)) ∙ sym n)
 
 -- all of these are corners
 abbrev corners : List ℕ → Bool
@@ -39,24 +53,12 @@ tail-are p ps h = second (ltb p 8) (corners ps) h
 
 -- Different nodes keep all that tells lists of corners apart.
 module _ (n : ℕ) (f : ℕ → ℕ) (sound : Sound n 8 f) where
-  differ : (i k : ℕ) → i < 8 → k < 8 → f i ≡ f k → i ≡ k
-  differ i k hi hk e =
-      cases (ltb i k)
-      (λ l. absurd (sound .apart i k (ltb-true i k l) hk e))
-      (λ l. ⊎-elim (λ (q : k ≡ i). sym q) (λ (less : k < i). absurd (sound .apart k i less hi (sym e))) (eq-or-lt-of-le (ltb-false i k l)))
-
-  eqb-map : (i k : ℕ) → i < 8 → k < 8 → eqb (f i) (f k) ≡ eqb i k
-  eqb-map i k hi hk =
-      cases (eqb i k)
-      (λ t. eq-eqb (f i) (f k) (ap f (eqb-true i k t)) ∙ sym t)
-      (λ n. ne-eqb (f i) (f k) (λ e. eqb-false i k n (differ i k hi hk e)) ∙ sym n)
-
   among-map : (ps : List ℕ) (x : ℕ) → T (corners ps) → x < 8 → among eqb (map f ps) (f x) ≡ among eqb ps x
   among-map [] x h hx = refl
   among-map (p ∷ ps) x h hx =
-      rw (eqb-map p x (head-is p ps h) hx, among-map ps x (tail-are p ps h) hx)
+      rw (eqb-map 8 f (sound .apart) p x (head-is p ps h) hx, among-map ps x (tail-are p ps h) hx)
 
-  within-map : (ps qs : List ℕ) → T (corners ps) → T (corners qs) → within (map f ps) (map f qs) ≡ within ps qs
+  within-map : (ps qs : List ℕ) → T (corners ps) → T (corners qs) → within eqb (map f ps) (map f qs) ≡ within eqb ps qs
   within-map [] qs hp hq = refl
   within-map (p ∷ ps) qs hp hq =
       rw (among-map qs p hq (head-is p ps hp), within-map ps qs (tail-are p ps hp) hq)
@@ -107,12 +109,16 @@ module _ (n : ℕ) (cells : List ℕ) (c : ℕ) (sound : Sound n 8 (node 8 cells
   pub face-nodes : (f : ℕ) → f < 6 → Different n (faceNodes cells c f)
   face-nodes = row-nodes n (node 8 cells c) sound 6 faceCorners tt tt
 
+  pub own-faces-differ : (i k : ℕ) → i < k → k < 6 → sameNodes (faceNodes cells c i) (faceNodes cells c k) ≡ false
+  own-faces-differ = own-differ n (node 8 cells c) sound 6 faceCorners tt tt
+
 pub own-parts-differ : OwnDiffer
 own-parts-differ =
     record {
       edgesDiffer = λ n cells c sound. own-differ n (node 8 cells c) sound 12 edgeCorners tt tt;
       facesDiffer = λ n cells c sound i k less h.
-          faces-same (faceNodes cells c i) (faceNodes cells c k) ∙ own-differ n (node 8 cells c) sound 6 faceCorners tt tt i k less h;
+          is-false (sameRing (faceNodes cells c i) (faceNodes cells c k))
+          (λ t. never (sym (ring-nodes (faceNodes cells c i) (faceNodes cells c k) refl refl t) ∙ own-faces-differ n cells c sound i k less h));
     }
 
 -- the tables hold corners

@@ -12,11 +12,11 @@ use lib.ListN.{length, length-append}
 use Rattle.numbers.proofs.Cases.{cases, never, is-true, passes, is-false}
 use Rattle.numbers.specs.Rule.{placeOf}
 use Rattle.numbers.specs.FirstMet.{among, meet, different}
-use Rattle.numbering.specs.Refinement.{Thing, edge, face, centre, same, edgesOf, facesOf, thingsOf, things}
-use Rattle.numbering.specs.Refinement.{cellCount, chain, given, number, next, IsMet, countOf, NumberedOnce}
-use Rattle.numbers.proofs.FirstMet.{among-append, among-meet, place-below, place-alike, place-tells, meet-append, meet-new, every-place, none-yet}
-use Rattle.numbering.proofs.Same.{same-things}
-use Rattle.numbering.proofs.Steps.{chain-has}
+use Rattle.numbering.specs.Refinement.{Thing, edge, face, centre, same, edgesOf, facesOf, thingsOf, things, sameRing}
+use Rattle.numbering.specs.Refinement.{cellCount, chain, given, givenBy, number, next, IsMet, countOf, NumberedOnce}
+use Rattle.numbers.proofs.FirstMet.{among-append, among-meet, meet-append, meet-new, every-place, none-yet}
+use Rattle.numbering.proofs.Same.{same-rings, same-things}
+use Rattle.numbering.proofs.Steps.{chain-has, keeps, is-below, tells}
 
 -- those of a list that pass
 abbrev keep : {A : Type 0} → (A → Bool) → List A → List A
@@ -117,25 +117,24 @@ all-centres (suc c) =
     ∙ ap suc (all-centres c)
 
 module _ (n : ℕ) (cells : List ℕ) where
-  is-given : (x : Thing) → IsMet cells x → among same (given cells) x ≡ true
-  unfolding given
-  is-given x m = among-meet same same-things [] (things cells) x ∙ is-true (among same (things cells) x) m
-
   each : (k : ℕ) → n ≤ k → k < next n cells → (x : Thing) × IsMet cells x × (number n cells x ≡ k)
-  unfolding given
+  unfolding givenBy
   each k low high =
       let found = every-place same same-things (things cells) [] (none-yet same same-things) (k - n) (omega arith) in
       let place : placeOf same (different same (things cells)) (found .0) ≡ k - n = found .2 in
       (found .0, passes (among same (things cells) (found .0)) (sym (among-meet same same-things [] (things cells) (found .0)) ∙ found .1), omega arith)
 
+  abbrev met : Thing → Bool
+  met x = among same (things cells) x
+
   shared : (x y : Thing) → IsMet cells x → IsMet cells y → (number n cells x ≡ number n cells y) ↔ T (same x y)
   shared x y mx my = (
-    (λ e. passes (same x y) (place-tells same same-things (given cells) x y (is-given x mx) (is-given y my) (omega arith))),
-    (λ t. ap (λ (p : ℕ). n + p) (place-alike same same-things (given cells) x y (is-true (same x y) t))),
+    (λ e. passes (same x y) (tells sameRing same-rings n cells x y (is-true (met x) mx) (is-true (met y) my) e)),
+    (λ t. keeps sameRing same-rings n cells x y (is-true (same x y) t)),
   )
 
   counted : length (given cells) ≡ countOf edgesOf cells + countOf facesOf cells + cellCount cells
-  unfolding given
+  unfolding givenBy
   counted =
       let c = cellCount cells in
       by-sort (different same (things cells)) ∙ rw (kept 0 c (thingsOf cells), kept 1 c (thingsOf cells), kept 2 c (thingsOf cells), all-centres c)
@@ -144,7 +143,7 @@ pub numbered-once : NumberedOnce
 numbered-once n cells =
     record {
       met = λ c x below t. passes _ (chain-has same x (cellCount cells) (thingsOf cells) c below (is-true (among same (thingsOf cells c) x) t));
-      inside = λ x m. (omega arith, let below = place-below same (given cells) x (is-given n cells x m) in omega arith);
+      inside = λ x m. (omega arith, is-below sameRing same-rings n cells x (is-true (met n cells x) m));
       each = each n cells;
       shared = shared n cells;
       counted = let count = counted n cells in omega arith;

@@ -12,10 +12,10 @@ use Rattle.numbers.specs.Rule.{tabulate, placeOf}
 use Rattle.numbers.proofs.Cases.{never, is-false}
 use Rattle.numbers.proofs.Prefix.{tabulate-past}
 use Rattle.numbers.proofs.Stored.{tabulate-more}
-use Rattle.numbers.specs.FirstMet.{among, meet, different}
-use Rattle.numbering.specs.Refinement.{Thing, same, chain, things, given, number}
-use Rattle.numbers.proofs.FirstMet.{among-append, among-meet, meet-append, meet-old, meet-new, first-met, place-alike}
-use Rattle.numbering.proofs.Same.{same-things}
+use Rattle.numbers.specs.FirstMet.{among, meet, different, Sameness}
+use Rattle.numbering.specs.Refinement.{Thing, sameBy, chain, things, givenBy, numberBy, nextBy}
+use Rattle.numbers.proofs.FirstMet.{among-append, among-meet, meet-append, meet-old, meet-new, first-met, place-below, place-alike, place-tells}
+use Rattle.numbering.proofs.Same.{same-by}
 
 pub chain-past : {A : Type 0} (c n : ℕ) (f : ℕ → List A) → c < n → (rest : List A) × (chain n f ≡ chain c f ++ (f c ++ rest))
 unfolding chain
@@ -72,52 +72,72 @@ module _ {A : Type 0} (same : A → A → Bool) (x : A) where
       (eq-or-lt-of-le (le-of-suc-le-suc below))
 
 -- the next number after these have been met
-abbrev pub nextAfter : ℕ → List Thing → ℕ
-nextAfter n met = n + length (different same met)
+abbrev pub nextAfter : (List ℕ → List ℕ → Bool) → ℕ → List Thing → ℕ
+nextAfter one n met = n + length (different (sameBy one) met)
 
--- The things of one row, the edges or the faces of cell c, after what is met before them: `earlier`.
-module _ (n : ℕ) (cells : List ℕ) (w : ℕ) (row : ℕ → Thing) (earlier later : List Thing) (whole : things cells ≡ earlier ++ (tabulate w row ++ later))
-    (differ : (k i : ℕ) → k < i → i < w → same (row k) (row i) ≡ false) where
-  not-own : (i : ℕ) → i < w → among same (tabulate i row) (row i) ≡ false
-  not-own i h =
-      is-false (among same (tabulate i row) (row i))
-      (λ t. let own = tabulate-found same (row i) i row t in never (sym (own .2) ∙ differ (own .0) i (own .1) h))
+-- The numbering, whichever rule faces go by.
+module _ (one : List ℕ → List ℕ → Bool) (fit : Sameness one) where
+  abbrev same : Thing → Thing → Bool
+  same = sameBy one
 
-  met : (i : ℕ) → i < w → among same (different same (earlier ++ tabulate i row)) (row i) ≡ among same earlier (row i)
-  met i h =
-      among-meet same same-things [] (earlier ++ tabulate i row) (row i)
-      ∙ among-append same earlier (tabulate i row) (row i)
-      ∙ rw (not-own i h, or-false)
+  fit-things : Sameness same
+  fit-things = same-by one fit
 
-  one-more : (i : ℕ) → different same (earlier ++ tabulate (i + 1) row) ≡ meet same (different same (earlier ++ tabulate i row)) (row i ∷ [])
-  one-more i =
-      rw (add-one, tabulate-more i row, ← append-assoc earlier (tabulate i row) (row i ∷ []))
-      (meet-append same [] (earlier ++ tabulate i row) (row i ∷ []))
+  -- The things of one row, the edges or the faces of cell c, after what is met before them: `earlier`.
+  module _ (n : ℕ) (cells : List ℕ) (w : ℕ) (row : ℕ → Thing) (earlier later : List Thing) (whole : things cells ≡ earlier ++ (tabulate w row ++ later))
+      (differ : (k i : ℕ) → k < i → i < w → same (row k) (row i) ≡ false) where
+    not-own : (i : ℕ) → i < w → among same (tabulate i row) (row i) ≡ false
+    not-own i h =
+        is-false (among same (tabulate i row) (row i))
+        (λ t. let own = tabulate-found same (row i) i row t in never (sym (own .2) ∙ differ (own .0) i (own .1) h))
 
-  pub known : (i : ℕ) → i < w → among same earlier (row i) ≡ true → nextAfter n (earlier ++ tabulate (i + 1) row) ≡ nextAfter n (earlier ++ tabulate i row)
-  known i h t = rw (one-more i, meet-old same (different same (earlier ++ tabulate i row)) (row i) (met i h ∙ t))
+    met : (i : ℕ) → i < w → among same (different same (earlier ++ tabulate i row)) (row i) ≡ among same earlier (row i)
+    met i h =
+        among-meet same fit-things [] (earlier ++ tabulate i row) (row i)
+        ∙ among-append same earlier (tabulate i row) (row i)
+        ∙ rw (not-own i h, or-false)
 
-  at-once : (i : ℕ) → i < w → (rest : List Thing) × (given cells ≡ meet same (different same (earlier ++ tabulate i row)) (row i ∷ rest))
-  unfolding given
-  at-once i h =
-      let past = tabulate-past i w row h in
-      let rest = past .0 ++ later in
-      let split : earlier ++ (tabulate w row ++ later) ≡ (earlier ++ tabulate i row) ++ (row i ∷ rest) =
-      rw (past .1, append-assoc (tabulate i row) (row i ∷ past .0) later, append-assoc earlier (tabulate i row) (row i ∷ rest)) in
-      (rest, ap (different same) (whole ∙ split) ∙ meet-append same [] (earlier ++ tabulate i row) (row i ∷ rest))
+    one-more : (i : ℕ) → different same (earlier ++ tabulate (i + 1) row) ≡ meet same (different same (earlier ++ tabulate i row)) (row i ∷ [])
+    one-more i =
+        rw (add-one, tabulate-more i row, ← append-assoc earlier (tabulate i row) (row i ∷ []))
+        (meet-append same [] (earlier ++ tabulate i row) (row i ∷ []))
 
-  pub new : (i : ℕ) → i < w → among same earlier (row i) ≡ false →
-      (number n cells (row i) ≡ nextAfter n (earlier ++ tabulate i row))
-      × (nextAfter n (earlier ++ tabulate (i + 1) row) ≡ nextAfter n (earlier ++ tabulate i row) + 1)
-  new i h f =
-      let so-far = different same (earlier ++ tabulate i row) in
-      let none : among same so-far (row i) ≡ false = met i h ∙ f in
-      let given-so = at-once i h in
-      let longer : length (meet same so-far (row i ∷ [])) ≡ length so-far + 1 = rw (meet-new same so-far (row i) none) (length-append so-far (row i ∷ [])) in (
-        ap (λ (p : ℕ). n + p) (ap (λ (l : List Thing). placeOf same l (row i)) (given-so .1) ∙ first-met same same-things so-far (given-so .0) (row i) none),
-        ap (λ (l : List Thing). n + length l) (one-more i) ∙ omega (arith, longer),
-      )
+    pub known : (i : ℕ) → i < w → among same earlier (row i) ≡ true → nextAfter one n (earlier ++ tabulate (i + 1) row) ≡ nextAfter one n (earlier ++ tabulate i row)
+    known i h t = rw (one-more i, meet-old same (different same (earlier ++ tabulate i row)) (row i) (met i h ∙ t))
 
--- What an earlier cell has keeps its number.
-pub keeps : (n : ℕ) (cells : List ℕ) (x y : Thing) → same x y ≡ true → number n cells x ≡ number n cells y
-keeps n cells x y h = ap (λ (p : ℕ). n + p) (place-alike same same-things (given cells) x y h)
+    at-once : (i : ℕ) → i < w → (rest : List Thing) × (givenBy one cells ≡ meet same (different same (earlier ++ tabulate i row)) (row i ∷ rest))
+    unfolding givenBy
+    at-once i h =
+        let past = tabulate-past i w row h in
+        let rest = past .0 ++ later in
+        let split : earlier ++ (tabulate w row ++ later) ≡ (earlier ++ tabulate i row) ++ (row i ∷ rest) =
+        rw (past .1, append-assoc (tabulate i row) (row i ∷ past .0) later, append-assoc earlier (tabulate i row) (row i ∷ rest)) in
+        (rest, ap (different same) (whole ∙ split) ∙ meet-append same [] (earlier ++ tabulate i row) (row i ∷ rest))
+
+    pub new : (i : ℕ) → i < w → among same earlier (row i) ≡ false →
+        (numberBy one n cells (row i) ≡ nextAfter one n (earlier ++ tabulate i row))
+        × (nextAfter one n (earlier ++ tabulate (i + 1) row) ≡ nextAfter one n (earlier ++ tabulate i row) + 1)
+    new i h f =
+        let so-far = different same (earlier ++ tabulate i row) in
+        let none : among same so-far (row i) ≡ false = met i h ∙ f in
+        let given-so = at-once i h in
+        let longer : length (meet same so-far (row i ∷ [])) ≡ length so-far + 1 = rw (meet-new same so-far (row i) none) (length-append so-far (row i ∷ [])) in (
+          ap (λ (p : ℕ). n + p) (ap (λ (l : List Thing). placeOf same l (row i)) (given-so .1) ∙ first-met same fit-things so-far (given-so .0) (row i) none),
+          ap (λ (l : List Thing). n + length l) (one-more i) ∙ omega (arith, longer),
+        )
+
+  -- What an earlier cell has keeps its number.
+  pub keeps : (n : ℕ) (cells : List ℕ) (x y : Thing) → same x y ≡ true → numberBy one n cells x ≡ numberBy one n cells y
+  keeps n cells x y h = ap (λ (p : ℕ). n + p) (place-alike same fit-things (givenBy one cells) x y h)
+
+  -- What is met has a number below the next free one, and what has one number is the same.
+  pub is-given : (cells : List ℕ) (x : Thing) → among same (things cells) x ≡ true → among same (givenBy one cells) x ≡ true
+  unfolding givenBy
+  is-given cells x m = among-meet same fit-things [] (things cells) x ∙ m
+
+  pub is-below : (n : ℕ) (cells : List ℕ) (x : Thing) → among same (things cells) x ≡ true → numberBy one n cells x < nextBy one n cells
+  is-below n cells x m = let below = place-below same (givenBy one cells) x (is-given cells x m) in omega arith
+
+  pub tells : (n : ℕ) (cells : List ℕ) (x y : Thing) → among same (things cells) x ≡ true → among same (things cells) y ≡ true
+      → numberBy one n cells x ≡ numberBy one n cells y → same x y ≡ true
+  tells n cells x y mx my e = place-tells same fit-things (givenBy one cells) x y (is-given cells x mx) (is-given cells y my) (omega arith)

@@ -1,43 +1,62 @@
--- Which number each edge, face and centre of a mesh gets, and which numbers its children name. Document 01, "Refinement". Definitions and claims only.
-use Prim.Native.Nat.{ℕ, zero, suc, _+_, _/_, _≤_, _<_}
+-- Which number each edge, face and centre of a mesh gets, and which numbers its children name. Document 01, "Refinement", with document 02, 2/12.
+-- Definitions and claims only.
+use Prim.Native.Nat.{ℕ, zero, suc, _+_, _*_, _/_, _%_, _≤_, _<_}
 use mathlib.Core.Path.{_≡_}
-use mathlib.Core.Bool.{Bool, true, false, _&&_}
+use mathlib.Core.Bool.{Bool, true, false, _&&_, _||_, not, cond}
 use mathlib.Core.List.{List, [], _∷_, _++_, map}
 use mathlib.Core.Logic.{_↔_}
 use lib.Dec.{T, eqb}
-use lib.ListN.{length}
-use Rattle.numbers.specs.Rule.{tabulate, placeOf}
+use lib.ListN.{length, getD}
+use Rattle.numbers.specs.Rule.{tabulate, all, any, placeOf}
 use Rattle.cell.specs.Edges.{end}
 use Rattle.faults.specs.Faults.{node, Sound}
 use Rattle.hex.specs.Cube.{edges, ring}
 use Rattle.hex_children.specs.Children.{children}
-use Rattle.numbers.specs.FirstMet.{among, different, Sameness}
+use Rattle.numbers.specs.FirstMet.{among, apart, different, Sameness}
 
--- what gets a number: an edge by its ends, a face by its nodes, and the centre of the cell at a place
+-- what gets a number: an edge by its ends, a face by its ring of nodes, and the centre of the cell at a place
 pub data Thing : Type 0 where
   edge : List ℕ → Thing
   face : List ℕ → Thing
   centre : ℕ → Thing
 
--- the same node numbers, in whatever order
-abbrev pub within : List ℕ → List ℕ → Bool
-within [] qs = true
-within (p ∷ ps) qs = among eqb qs p && within ps qs
+-- the same members, in whatever order
+abbrev pub within : {A : Type 0} → (A → A → Bool) → List A → List A → Bool
+within same [] qs = true
+within same (p ∷ ps) qs = among same qs p && within same ps qs
 
+abbrev pub sameMembers : {A : Type 0} → (A → A → Bool) → List A → List A → Bool
+sameMembers same ps qs = within same ps qs && within same qs ps
+
+-- the same node numbers
 abbrev pub sameNodes : List ℕ → List ℕ → Bool
-sameNodes ps qs = within ps qs && within qs ps
+sameNodes ps qs = sameMembers eqb ps qs
 
--- "An edge is the unordered pair of its ends. Two faces are one when they have the same four node numbers." "every centre is new"
+-- a ring of four gone round from node s on: forward by ones or back by threes, since a ring has four nodes
+abbrev pub turned : Bool → ℕ → ℕ → ℕ
+turned back s j = s + cond back 3 1 * j
+
+abbrev pub agree : List ℕ → List ℕ → Bool → ℕ → Bool
+agree ps qs back s = all 4 (λ (j : ℕ). eqb (getD ps j 0) (getD qs (turned back s j % 4) 0))
+
+-- document 02, 2/12: "Two faces are one only when their rings agree up to where they start and which way they turn."
+abbrev pub sameRing : List ℕ → List ℕ → Bool
+sameRing ps qs = any 4 (λ (s : ℕ). agree ps qs false s || agree ps qs true s)
+
+-- "An edge is the unordered pair of its ends." "every centre is new"; faces by the rule `one`
+abbrev pub sameBy : (List ℕ → List ℕ → Bool) → Thing → Thing → Bool
+sameBy one (edge ps) (edge qs) = sameNodes ps qs
+sameBy one (edge ps) (face qs) = false
+sameBy one (edge ps) (centre d) = false
+sameBy one (face ps) (edge qs) = false
+sameBy one (face ps) (face qs) = one ps qs
+sameBy one (face ps) (centre d) = false
+sameBy one (centre c) (edge qs) = false
+sameBy one (centre c) (face qs) = false
+sameBy one (centre c) (centre d) = eqb c d
+
 abbrev pub same : Thing → Thing → Bool
-same (edge ps) (edge qs) = sameNodes ps qs
-same (edge ps) (face qs) = false
-same (edge ps) (centre d) = false
-same (face ps) (edge qs) = false
-same (face ps) (face qs) = sameNodes ps qs
-same (face ps) (centre d) = false
-same (centre c) (edge qs) = false
-same (centre c) (face qs) = false
-same (centre c) (centre d) = eqb c d
+same = sameBy sameRing
 
 abbrev pub SameThings : Type 0
 SameThings = Sameness same
@@ -87,25 +106,48 @@ thingsTo cells c = chain c (thingsOf cells)
 abbrev pub things : List ℕ → List Thing
 things cells = thingsTo cells (cellCount cells)
 
--- "The first time an edge or face is met it gets the next number, from n up; afterwards it keeps it"
-unfoldable pub given : List ℕ → List Thing
-given cells = different same (things cells)
+-- "Two faces with the same four nodes and different rings make the mesh wrong.": one by their nodes and not by their rings
+abbrev pub twist : Thing → Thing → Bool
+twist x y = sameBy sameNodes x y && not (same x y)
+
+-- some two of all faces of all cells are such
+unfoldable pub twisted : List ℕ → Bool
+twisted cells = not (apart twist (chain (cellCount cells) (facesOf cells)))
+
+-- The numbering, over the rule for faces.
+module _ (one : List ℕ → List ℕ → Bool) where
+  -- "The first time an edge or face is met it gets the next number, from n up; afterwards it keeps it"
+  unfoldable pub givenBy : List ℕ → List Thing
+  givenBy cells = different (sameBy one) (things cells)
+
+  abbrev pub numberBy : ℕ → List ℕ → Thing → ℕ
+  numberBy n cells x = n + placeOf (sameBy one) (givenBy cells) x
+
+  -- "The answer is the next free number."
+  abbrev pub nextBy : ℕ → List ℕ → ℕ
+  nextBy n cells = n + length (givenBy cells)
+
+  -- "Each cell's 64 child numbers"
+  abbrev pub childNumbersBy : ℕ → List ℕ → ℕ → List ℕ
+  childNumbersBy n cells c =
+      children
+      (tabulate 8 (node 8 cells c))
+      (map (numberBy n cells) (edgesOf cells c))
+      (map (numberBy n cells) (facesOf cells c))
+      (numberBy n cells (centre c))
+
+-- It goes by rings. Document 01's own rule for faces was `sameNodes`.
+abbrev pub given : List ℕ → List Thing
+given = givenBy sameRing
 
 abbrev pub number : ℕ → List ℕ → Thing → ℕ
-number n cells x = n + placeOf same (given cells) x
+number = numberBy sameRing
 
--- "The answer is the next free number."
 abbrev pub next : ℕ → List ℕ → ℕ
-next n cells = n + length (given cells)
+next = nextBy sameRing
 
--- "Each cell's 64 child numbers"
 abbrev pub childNumbers : ℕ → List ℕ → ℕ → List ℕ
-childNumbers n cells c =
-    children
-    (tabulate 8 (node 8 cells c))
-    (map (number n cells) (edgesOf cells c))
-    (map (number n cells) (facesOf cells c))
-    (number n cells (centre c))
+childNumbers = childNumbersBy sameRing
 
 -- "The search over earlier cells" is enough: the edges of one cell differ, and its faces, because its nodes do.
 pub record OwnDiffer : Type 0 where
