@@ -1,5 +1,6 @@
--- Keys tell edges and faces apart: a list in rising order is its members' only one, and digits below the base can be read back. Assumes nothing.
-use Prim.Native.Nat.{ℕ, suc, _+_, _*_, _^_, _≤_, _<_, min, max}
+-- Keys tell edges and faces apart: a list in rising order is its members' only one, and digits below the base can be read back. Of two rings of the same nodes
+-- the smallest node and the one opposite tell whether they are one. Assumes nothing.
+use Prim.Native.Nat.{ℕ, suc, _+_, _*_, _%_, _^_, _≤_, _<_, min, max}
 use native.Mathlib.Nat.{pow-suc, mul-le-mul-right}
 use native.Mathlib.Omega.{arith}
 use mathlib.Core.Path.{_≡_, refl, sym, ap, _∙_}
@@ -8,13 +9,18 @@ use mathlib.Core.List.{List, [], _∷_}
 use borrow.Author.Tests.{eq-eqb, eqb-true, eqb-false, ltb-true, ltb-false}
 use lib.Dec.{T, eqb, ltb, T-not}
 use mathlib.Core.Logic.{inl, inr, ⊎-elim}
-use lib.ListN.{length}
+use lib.ListN.{length, getD}
+use lib.Seq.{ext-getD}
+use Rattle.numbers.specs.Rule.{tabulate}
 use Rattle.numbers.proofs.Cases.{cases, never, passes, is-false, fails}
+use Rattle.numbers.proofs.Every.{Every}
+use Rattle.numbers.proofs.Tabulate.{tabulate-at}
 use Rattle.numbers.proofs.Tests.{first, second}
 use Rattle.numbers.specs.FirstMet.{among, apart}
-use Rattle.keys.specs.Keys.{insert, rising, packed, key, Nodes, PairsInOrder, KeysTell}
+use Rattle.keys.specs.Keys.{insert, rising, packed, key, opposite, Nodes, PairsInOrder, KeysTell, RingsTell}
 use Rattle.numbering.proofs.Cells.{Different}
-use Rattle.numbering.proofs.Same.{members, by-members}
+use Rattle.numbering.proofs.Rings.{opposite-tells}
+use Rattle.numbering.proofs.Same.{among-at, members, by-members}
 
 or-swap : (a b c : Bool) → (a || (b || c)) ≡ (b || (a || c))
 or-swap true b c = sym (or-true b)
@@ -280,3 +286,54 @@ pair-key a b =
 pub four-key : (a b c d : ℕ) → packed (exchanged a b c d) ≡ key (a ∷ b ∷ c ∷ d ∷ [])
 unfolding key
 four-key a b c d = ap packed (sym (exchanged-rising a b c d))
+
+-- a list of four is its four numbers
+pub four-nodes : (ps : List ℕ) → length ps ≡ 4 → getD ps 0 0 ∷ getD ps 1 0 ∷ getD ps 2 0 ∷ getD ps 3 0 ∷ [] ≡ ps
+four-nodes ps long = ext-getD 0 (tabulate 4 (λ (j : ℕ). getD ps j 0)) ps (sym long) (λ j below. tabulate-at 4 (λ (j : ℕ). getD ps j 0) 0 j below)
+
+-- ---- rings
+-- where the smallest node of a ring stands, and that across from it
+record Smallest (ps : List ℕ) : Type 0 where
+  place : ℕ
+  below : place < 4
+  least : (x : ℕ) → among eqb ps x ≡ true → getD ps place 0 ≤ x
+  across : opposite ps ≡ getD ps ((place + 2) % 4) 0
+
+least-of : (y : ℕ) (ps : List ℕ) → Every (λ (p : ℕ). y ≤ p) ps → (x : ℕ) → among eqb ps x ≡ true → y ≤ x
+least-of y [] h x m = never (sym m)
+least-of y (p ∷ ps) h x m =
+    cases (eqb p x) (λ e. let here = eqb-true p x e in omega (arith, h .0)) (λ f. least-of y ps (h .1) x (rw f at m))
+
+smallest-of : (a b c d : ℕ) → Smallest (a ∷ b ∷ c ∷ d ∷ [])
+smallest-of a b c d =
+    let ps = a ∷ b ∷ c ∷ d ∷ [] in
+    cases (ltb (min a c) (min b d))
+    (λ t.
+    let less = ltb-true (min a c) (min b d) t in
+    in-order a c
+    (λ ac low high.
+    record { place = 0; below = omega arith; least = least-of a ps (omega arith, (omega arith, (omega arith, (omega arith, tt)))); across = rw t high })
+    (λ ca low high.
+    record { place = 2; below = omega arith; least = least-of c ps (omega arith, (omega arith, (omega arith, (omega arith, tt)))); across = rw t high }))
+    (λ f.
+    let most = ltb-false (min a c) (min b d) f in
+    in-order b d
+    (λ bd low high.
+    record { place = 1; below = omega arith; least = least-of b ps (omega arith, (omega arith, (omega arith, (omega arith, tt)))); across = rw f high })
+    (λ db low high.
+    record { place = 3; below = omega arith; least = least-of d ps (omega arith, (omega arith, (omega arith, (omega arith, tt)))); across = rw f high }))
+
+smallest : (ps : List ℕ) → length ps ≡ 4 → Smallest ps
+smallest ps long = rw (← four-nodes ps long) (smallest-of (getD ps 0 0) (getD ps 1 0) (getD ps 2 0) (getD ps 3 0))
+
+pub rings-tell : RingsTell
+rings-tell ps qs hp hq together =
+    let s = smallest ps (hp .long) in
+    let t = smallest qs (hq .long) in
+    let up = s .least (getD qs (t .place) 0) (members ps qs together _ ∙ among-at qs (t .place) (rw (hq .long) (t .below))) in
+    let down = t .least (getD ps (s .place) 0) (sym (members ps qs together _) ∙ among-at ps (s .place) (rw (hp .long) (s .below))) in
+    let one : getD ps (s .place) 0 ≡ getD qs (t .place) 0 = omega arith in
+    let told = opposite-tells ps hp qs hq together (s .place) (t .place) (s .below) (t .below) one in (
+      (λ e. told ∙ eq-eqb _ _ (sym (s .across) ∙ e ∙ t .across)),
+      (λ r. s .across ∙ eqb-true _ _ (sym told ∙ r) ∙ sym (t .across)),
+    )

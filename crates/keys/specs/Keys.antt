@@ -1,15 +1,16 @@
--- How the refinement's code keeps an edge or a face: its node numbers in rising order are the digits of one number, its key. No promise to a user cites these.
--- Definitions and claims only.
-use Prim.Native.Nat.{ℕ, _+_, _*_, _/_, _%_, _^_, _<_}
+-- How the refinement's code keeps an edge or a face: its node numbers in rising order are the digits of one number, its key, and a face's ring is told by the
+-- node opposite the smallest. No promise to a user cites these. Definitions and claims only.
+use Prim.Native.Nat.{ℕ, _+_, _*_, _/_, _%_, _^_, _<_, min, max}
 use mathlib.Core.Path.{_≡_}
 use mathlib.Core.Bool.{true, cond}
 use mathlib.Core.List.{List, [], _∷_, _++_}
 use mathlib.Core.Logic.{_↔_, _⊎_}
 use lib.Dec.{T, eqb, ltb}
-use lib.ListN.{length, drop, replicate}
+use lib.ListN.{length, getD, drop, replicate}
 use Rattle.numbers.specs.Rule.{tabulate}
 use Rattle.numbers.specs.FirstMet.{among, apart}
-use Rattle.numbering.specs.Refinement.{sameNodes, edgeNodes, faceNodes}
+use Rattle.numbering.specs.Refinement.{sameNodes, sameRing, edgeNodes, faceNodes}
+use Rattle.numbering.specs.Rings.{Four}
 
 abbrev pub insert : ℕ → List ℕ → List ℕ
 insert x [] = x ∷ []
@@ -27,12 +28,21 @@ packed (x ∷ xs) = x * 1024 ^ length xs + packed xs
 unfoldable pub key : List ℕ → ℕ
 key ps = packed (rising ps)
 
--- the keys of the edges, and of the faces, cell after cell
+-- which node of a ring of four stands opposite the smallest: the other end of the diagonal that the smallest is on
+abbrev pub opposite : List ℕ → ℕ
+opposite ps =
+    let at : ℕ → ℕ = λ j. getD ps j 0 in
+    cond (ltb (min (at 0) (at 2)) (min (at 1) (at 3))) (max (at 0) (at 2)) (max (at 1) (at 3))
+
+-- the keys of the edges, and of the faces, cell after cell, and the nodes opposite the smallest ones
 abbrev pub edgeKey : List ℕ → ℕ → ℕ
 edgeKey cells j = key (edgeNodes cells (j / 12) (j % 12))
 
 abbrev pub faceKey : List ℕ → ℕ → ℕ
 faceKey cells j = key (faceNodes cells (j / 6) (j % 6))
+
+abbrev pub faceRing : List ℕ → ℕ → ℕ
+faceRing cells j = opposite (faceNodes cells (j / 6) (j % 6))
 
 -- the first m keys, in a list of this many numbers; 0 stands behind them
 abbrev pub keysIn : ℕ → ℕ → (ℕ → ℕ) → List ℕ
@@ -51,3 +61,7 @@ PairsInOrder =
 -- Two edges, or two faces, have one key exactly when they have the same nodes.
 abbrev pub KeysTell : Type 0
 KeysTell = (ps qs : List ℕ) → length ps ≡ length qs → Nodes ps → Nodes qs → (key ps ≡ key qs) ↔ (sameNodes ps qs ≡ true)
+
+-- Two faces that have the same nodes have the same ring exactly when the same node stands opposite the smallest.
+abbrev pub RingsTell : Type 0
+RingsTell = (ps qs : List ℕ) → Four ps → Four qs → sameNodes ps qs ≡ true → (opposite ps ≡ opposite qs) ↔ (sameRing ps qs ≡ true)

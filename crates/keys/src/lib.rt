@@ -1,4 +1,5 @@
-// The edges and faces of a mesh, each as one number, its key: the nodes in rising order are the digits.
+// The edges and faces of a mesh, each as one number, its key: the nodes in rising order are the digits. Faces that have one key, which is the same four nodes,
+// are told apart by the node opposite the smallest.
 ghost use mathlib.Core.Path.{_≡_};
 ghost use mathlib.Core.List.{[], _∷_};
 ghost use Prim.Native.Nat.{_+_, _*_, _<_, _≤_, min, max};
@@ -7,7 +8,7 @@ ghost use Rattle.cell.specs.Edges.{end};
 ghost use Rattle.faults.specs.Faults.{node};
 ghost use Rattle.hex.specs.Cube.{edges, idx2node};
 ghost use Rattle.numbering.specs.Refinement.{cellCount, edgeNodes, faceNodes};
-ghost use Rattle.keys.specs.Keys.{packed, key, edgeKey, faceKey, keysIn};
+ghost use Rattle.keys.specs.Keys.{packed, key, opposite, edgeKey, faceKey, faceRing, keysIn};
 
 fn low(a: u32, b: u32) -> u32
     ensures { λ r. ⌜ r ≡ min a b ⌝ }
@@ -54,22 +55,41 @@ fn edge_key(cells: &[u32], c: usize, e: usize) -> u64
     high(a, b) as u64 + 1024 * (low(a, b) as u64)
 }
 
-// The nodes of a face in rising order, as the digits of one number.
-fn face_key(cells: &[u32], c: usize, f: usize) -> u64
+// The ring of nodes of face f of cell c.
+fn face_nodes(cells: &[u32], c: usize, f: usize) -> [u32; 4]
     requires { ⌜ (8 * c + 8 ≤ length (now cells)) × (f < 6) ⌝ }
-    ensures { λ r. ⌜ r ≡ key (faceNodes (now (cells .entry)) c f) ⌝ }
+    ensures { λ r. ⌜ r ≡ faceNodes (now (cells .entry)) c f ⌝ }
 {
-    let a = face_node(cells, c, f, 0);
-    let b = face_node(cells, c, f, 1);
-    let d = face_node(cells, c, f, 2);
-    let e = face_node(cells, c, f, 3);
-    let p = low(a, b);
-    let q = high(a, b);
-    let r = low(d, e);
-    let s = high(d, e);
+    [
+        face_node(cells, c, f, 0),
+        face_node(cells, c, f, 1),
+        face_node(cells, c, f, 2),
+        face_node(cells, c, f, 3),
+    ]
+}
+
+// The nodes of a face in rising order, as the digits of one number.
+fn face_key(ring: [u32; 4]) -> u64
+    ensures { λ r. ⌜ r ≡ key ring ⌝ }
+{
+    let p = low(ring[0], ring[1]);
+    let q = high(ring[0], ring[1]);
+    let r = low(ring[2], ring[3]);
+    let s = high(ring[2], ring[3]);
     let m = high(p, r);
     let k = low(q, s);
     digits(low(p, r), low(m, k), high(m, k), high(q, s))
+}
+
+// The node opposite the smallest one, which is the other end of the diagonal that the smallest is on.
+fn opposite(ring: [u32; 4]) -> u32
+    ensures { λ r. ⌜ r ≡ opposite ring ⌝ }
+{
+    if low(ring[0], ring[2]) < low(ring[1], ring[3]) {
+        high(ring[0], ring[2])
+    } else {
+        high(ring[1], ring[3])
+    }
 }
 
 // How many cells a list has; of a longer list the first 128 count.
@@ -99,7 +119,19 @@ pub fn face_keys(cells: &[u32]) -> [u64; 768]
     let mut keys = [0u64; 768];
     let count = 6 * counted(cells);
     for j in 0..count {
-        keys[j] = face_key(cells, j / 6, j % 6);
+        keys[j] = face_key(face_nodes(cells, j / 6, j % 6));
     }
     keys
+}
+
+// The nodes opposite the smallest ones of the faces, six a cell.
+pub fn face_rings(cells: &[u32]) -> [u32; 768]
+    ensures { λ r. ⌜ r ≡ keysIn 768 (6 * min (cellCount (now (cells .entry))) 128) (faceRing (now (cells .entry))) ⌝ }
+{
+    let mut rings = [0u32; 768];
+    let count = 6 * counted(cells);
+    for j in 0..count {
+        rings[j] = opposite(face_nodes(cells, j / 6, j % 6));
+    }
+    rings
 }

@@ -1,11 +1,11 @@
 -- `keys::face_keys` meets its contract: the keys stored are those of the faces passed. Assumes nothing.
 use Prim.Native.Nat.{_*_, _-_, min}
 use native.Mathlib.Omega.{arith}
-use mathlib.Core.Path.{_≡_, refl}
+use mathlib.Core.Path.{_≡_, refl, ap, _∙_}
 use lib.ListN.{length}
 use Rattle.numbers.proofs.Stored.{Stores, stores-none, stores-more}
 use Rattle.numbering.specs.Refinement.{cellCount}
-use Rattle.keys.specs.Keys.{faceKey}
+use Rattle.keys.specs.Keys.{key, faceKey}
 use Rattle.keys.proofs.face_keys.Statement.{statement}
 use Rattle.keys.proofs.face_keys.Tie as tie
 
@@ -15,15 +15,15 @@ Inv-loop cells keys₀ count j₀ keys j = (length keys₀ ≡ 768) × Stores (f
 abbrev μ-loop : tie.MeasureT-loop
 μ-loop cells keys₀ count j₀ keys j = count - j
 
-face-key-requires : tie.Need-face-key-requires Inv-loop μ-loop
-face-key-requires c κs = let few = c .before .before .counted .ensures in (omega arith, omega arith)
+face-nodes-requires : tie.Need-face-nodes-requires Inv-loop μ-loop
+face-nodes-requires c κs = let few = c .before .before .counted .ensures in (omega arith, omega arith)
 
 loop-again : tie.Need-loop-again Inv-loop μ-loop
 loop-again c =
-    let turn = c .before .before in
+    let turn = c .before .before .before in
     let few = turn .before .counted .ensures in
     let inv = turn .loop .inv in
-    (inv .0, stores-more _ (inv .1) (omega arith) (omega arith) (c .face-key .ensures))
+    (inv .0, stores-more _ (inv .1) (omega arith) (omega arith) (c .face-key .ensures ∙ ap key (c .before .face-nodes .ensures)))
 
 returns : tie.Need-returns Inv-loop μ-loop
 returns c =
@@ -41,9 +41,10 @@ face-keys-spec =
     (λ c κs. omega arith)
     (λ c. let few = c .counted .ensures in omega arith)
     (λ c. (refl, stores-none))
-    face-key-requires
-    (λ c. let few = c .before .before .before .counted .ensures in omega arith)
-    (λ c. let few = c .before .before .before .counted .ensures in omega arith)
+    face-nodes-requires
+    (λ c κs. omega arith)
+    (λ c. let few = c .before .before .before .before .counted .ensures in omega arith)
+    (λ c. let few = c .before .before .before .before .counted .ensures in omega arith)
     (λ c. omega arith)
     (λ c. omega arith)
     loop-again
