@@ -3,3 +3,4 @@ pub mod Places
 pub mod Rules
 pub mod Search
 pub mod Told
+pub mod Twists

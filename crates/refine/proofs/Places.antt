@@ -37,11 +37,6 @@ place-within (y ∷ ys) (suc j) k within e =
     let rest = place-within ys j k (le-of-suc-le-suc within) e in
     cases (eqb y k) (λ t. rw t (omega arith)) (λ f. rw f (omega arith))
 
-pub place-holds : (keys : List ℕ) (k : ℕ) → placeOf eqb keys k < length keys → getD keys (placeOf eqb keys k) 0 ≡ k
-place-holds [] k within = absurd (omega arith)
-place-holds (y ∷ ys) k within =
-    cases (eqb y k) (λ t. rw t (eqb-true y k t)) (λ f. rw f (place-holds ys k (le-of-suc-le-suc (rw f at within))))
-
 -- what is not old is missing
 pub new-missing : (keys : List ℕ) (m k : ℕ) → m ≤ length keys → isOld keys m k ≡ false → Missing keys m k
 new-missing keys m k within new j below e =

@@ -1,5 +1,5 @@
--- The numbers of a cell's edges, of its faces and of its centre keep to the rule that the code goes by: keys tell edges and faces apart, and what is among the
--- things met before is an edge or a face of an earlier cell, since a cell's own differ. Assumes nothing.
+-- The numbers of a cell's edges, of its faces and of its centre, faces by their nodes, keep to the rule that the code goes by: keys tell edges and faces apart,
+-- and what is among the things met before is an edge or a face of an earlier cell, since a cell's own differ. Assumes nothing.
 use Prim.Native.Nat.{ℕ, _+_, _*_, _/_, _%_, _≤_, _<_}
 use native.Mathlib.Nat.{mod-lt}
 use native.Mathlib.Numerals.{add-one}
@@ -15,17 +15,20 @@ use Rattle.numbers.specs.Rule.{tabulate}
 use Rattle.numbers.proofs.Cases.{is-false}
 use Rattle.faults.specs.Faults.{node, Sound}
 use Rattle.numbers.specs.FirstMet.{among}
-use Rattle.numbering.specs.Refinement.{Thing, edge, face, centre, sameNodes, same, cellCount, edgeNodes, faceNodes}
-use Rattle.numbering.specs.Refinement.{edgeOf, faceOf, edgesOf, facesOf, thingsOf, chain, thingsTo, things, number}
+use Rattle.numbering.specs.Refinement.{Thing, edge, face, centre, sameNodes, sameBy, cellCount, edgeNodes, faceNodes}
+use Rattle.numbering.specs.Refinement.{edgeOf, faceOf, edgesOf, facesOf, thingsOf, chain, thingsTo, things, numberBy}
 use Rattle.keys.specs.Keys.{Nodes, key, edgeKey, faceKey}
 use Rattle.numbers.proofs.FirstMet.{among-append}
-use Rattle.numbering.proofs.Same.{same-things}
+use Rattle.numbering.proofs.Same.{same-nodes, same-by}
 use Rattle.keys.proofs.Keys.{key-nodes, keys-tell}
-use Rattle.numbering.proofs.Cells.{edge-nodes, face-nodes, own-parts-differ}
+use Rattle.numbering.proofs.Cells.{edge-nodes, face-nodes, own-parts-differ, own-faces-differ}
 use Rattle.numbering.proofs.Steps.{chain-past, chain-has, chain-found, tabulate-has, tabulate-found, nextAfter, known, new, keeps}
 use Rattle.refine.specs.Search.{Agrees, edgeNumber, faceNumber}
 use Rattle.refine.proofs.Places.{Missing}
 use Rattle.numbers.proofs.Slots.{slot-row, slot-place, row-of, row-within}
+
+abbrev same : Thing → Thing → Bool
+same = sameBy sameNodes
 
 -- A numbering of keys, `value j` of key j, keeps to the rule at the w keys from m on, which are one cell's: a key that an earlier cell has keeps its number,
 -- and another gets the next, which is `before i` at key m + i.
@@ -60,7 +63,7 @@ module _ (n : ℕ) (cells : List ℕ) (w : ℕ) (make : List ℕ → Thing) (nod
   earlier = thingsTo cells c ++ own
 
   abbrev pub value : ℕ → ℕ
-  value j = number n cells (make (nodes (j / w) (j % w)))
+  value j = numberBy sameNodes n cells (make (nodes (j / w) (j % w)))
 
   whole : (rest : List Thing) × (things cells ≡ earlier ++ (tabulate w row ++ rest))
   whole =
@@ -76,7 +79,7 @@ module _ (n : ℕ) (cells : List ℕ) (w : ℕ) (make : List ℕ → Thing) (nod
       let inside = row-within w d (cellCount cells) h in
       keyed (w * d + i) (omega arith) ∙ rw (slot-row w d i l, slot-place w d i l)
 
-  value-at : (i : ℕ) → i < w → value (w * c + i) ≡ number n cells (row i)
+  value-at : (i : ℕ) → i < w → value (w * c + i) ≡ numberBy sameNodes n cells (row i)
   value-at i l = rw (slot-row w c i l, slot-place w c i l)
 
   -- what an earlier cell has is met before, and what is met before an earlier cell has
@@ -101,7 +104,7 @@ module _ (n : ℕ) (cells : List ℕ) (w : ℕ) (make : List ℕ → Thing) (nod
       let told = keys-tell (nodes d k) (nodes c i) (family .long d k c i) (family .good d k (omega arith) m) (family .good c i below h) in
       ((λ e. family .alike (nodes d k) (nodes c i) ∙ told .0 e), (λ t. told .1 (sym (family .alike (nodes d k) (nodes c i)) ∙ t)))
 
-  pub keeps-to : Rule keys (w * c) w value (λ (i : ℕ). nextAfter n (earlier ++ tabulate i row))
+  pub keeps-to : Rule keys (w * c) w value (λ (i : ℕ). nextAfter sameNodes n (earlier ++ tabulate i row))
   keeps-to =
       record {
         old = λ i j h l e.
@@ -109,8 +112,8 @@ module _ (n : ℕ) (cells : List ℕ) (w : ℕ) (make : List ℕ → Thing) (nod
             let k = mod-lt j (family .some) in
             let inside = row-within w c (cellCount cells) below in
             let t = tell i (j / w) (j % w) h d k .0 (sym (keyed j (omega arith)) ∙ e ∙ key-at c i below h) in (
-              value-at i h ∙ keeps n cells (row i) _ (same-things .swap (row i) _ ∙ t),
-              known n cells w row earlier (whole .0) (whole .1) differ i h (has i (j / w) (j % w) d k t),
+              value-at i h ∙ keeps sameNodes same-nodes n cells (row i) _ (same-by sameNodes same-nodes .swap (row i) _ ∙ t),
+              known sameNodes same-nodes n cells w row earlier (whole .0) (whole .1) differ i h (has i (j / w) (j % w) d k t),
             );
         new = λ i h missing.
             let fresh : among same earlier (row i) ≡ false =
@@ -118,7 +121,7 @@ module _ (n : ℕ) (cells : List ℕ) (w : ℕ) (make : List ℕ → Thing) (nod
             let (d, k, l, m, s) = found i t in
             let inside = row-within w d c l in
             missing (w * d + k) (omega arith) (key-at d k (omega arith) m ∙ tell i d k h l m .1 s ∙ sym (key-at c i below h))) in
-            let first = new n cells w row earlier (whole .0) (whole .1) differ i h fresh in
+            let first = new sameNodes same-nodes n cells w row earlier (whole .0) (whole .1) differ i h fresh in
             (value-at i h ∙ first .0, first .1);
       }
 
@@ -150,16 +153,16 @@ module _ (n : ℕ) (few : n ≤ 1024) (cells : List ℕ) (sound : (d : ℕ) → 
         only = λ d ps. refl;
         long = λ d i e k. refl;
         good = λ d i h l. key-nodes n (faceNodes cells d i) few (face-nodes n cells d (sound d h) i l);
-        differ = λ d i k h. own-parts-differ .facesDiffer n cells d (sound d h) i k;
+        differ = λ d i k h. own-faces-differ n cells d (sound d h) i k;
       }
 
   module _ (c : ℕ) (below : c < cellCount cells) where
     pub edge-rule : (keys : List ℕ) → Agrees keys (12 * cellCount cells) (edgeKey cells) →
-        Rule keys (12 * c) 12 (edgeNumber n cells) (λ (i : ℕ). nextAfter n ((thingsTo cells c ++ []) ++ tabulate i (edgeOf cells c)))
+        Rule keys (12 * c) 12 (edgeNumber n cells) (λ (i : ℕ). nextAfter sameNodes n ((thingsTo cells c ++ []) ++ tabulate i (edgeOf cells c)))
     edge-rule keys keyed = keeps-to n cells 12 edge (edgeNodes cells) edge-family keys keyed c below [] (facesOf cells c ++ (centre c ∷ [])) refl (λ ps. refl)
 
     pub face-rule : (keys : List ℕ) → Agrees keys (6 * cellCount cells) (faceKey cells) →
-        Rule keys (6 * c) 6 (faceNumber n cells) (λ (i : ℕ). nextAfter n ((thingsTo cells c ++ edgesOf cells c) ++ tabulate i (faceOf cells c)))
+        Rule keys (6 * c) 6 (faceNumber n cells) (λ (i : ℕ). nextAfter sameNodes n ((thingsTo cells c ++ edgesOf cells c) ++ tabulate i (faceOf cells c)))
     face-rule keys keyed = keeps-to n cells 6 face (faceNodes cells) face-family keys keyed c below (edgesOf cells c) (centre c ∷ []) refl (λ ps. refl)
 
     -- "every centre is new": no earlier cell has this one's
@@ -174,18 +177,18 @@ module _ (n : ℕ) (few : n ≤ 1024) (cells : List ℕ) (sound : (d : ℕ) → 
         let e = eqb-true (cell .0) c (sym (or-false (eqb (cell .0) c)) ∙ cell .2) in
         omega (arith, cell .1))
 
-    pub centre-rule : (number n cells (centre c) ≡ nextAfter n ((thingsTo cells c ++ edgesOf cells c) ++ facesOf cells c))
-        × (nextAfter n (thingsTo cells (c + 1)) ≡ nextAfter n ((thingsTo cells c ++ edgesOf cells c) ++ facesOf cells c) + 1)
+    pub centre-rule : (numberBy sameNodes n cells (centre c) ≡ nextAfter sameNodes n ((thingsTo cells c ++ edgesOf cells c) ++ facesOf cells c))
+        × (nextAfter sameNodes n (thingsTo cells (c + 1)) ≡ nextAfter sameNodes n ((thingsTo cells c ++ edgesOf cells c) ++ facesOf cells c) + 1)
     unfolding chain
     centre-rule =
         let before = (thingsTo cells c ++ edgesOf cells c) ++ facesOf cells c in
         let past = chain-past c (cellCount cells) (thingsOf cells) below in
         let all = past .1 ∙ in-three (thingsTo cells c) (edgesOf cells c) (facesOf cells c) (centre c ∷ []) (past .0) in
-        let first = new n cells 1 (λ (i : ℕ). centre c) before (past .0) all (λ i k less h. absurd (omega arith)) 0 (omega arith) not-met in
-        let none : nextAfter n (before ++ []) ≡ nextAfter n before = ap (nextAfter n) (append-nil before) in (
+        let first = new sameNodes same-nodes n cells 1 (λ (i : ℕ). centre c) before (past .0) all (λ i k less h. absurd (omega arith)) 0 (omega arith) not-met in
+        let none : nextAfter sameNodes n (before ++ []) ≡ nextAfter sameNodes n before = ap (nextAfter sameNodes n) (append-nil before) in (
           first .0 ∙ none,
-          ap (λ (d : ℕ). nextAfter n (thingsTo cells d)) (add-one c)
-              ∙ ap (nextAfter n) (behind (thingsTo cells c) (edgesOf cells c) (facesOf cells c) (centre c ∷ []))
+          ap (λ (d : ℕ). nextAfter sameNodes n (thingsTo cells d)) (add-one c)
+              ∙ ap (nextAfter sameNodes n) (behind (thingsTo cells c) (edgesOf cells c) (facesOf cells c) (centre c ∷ []))
               ∙ first .1
               ∙ ap (λ (k : ℕ). k + 1) none,
         )

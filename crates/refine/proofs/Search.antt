@@ -12,12 +12,13 @@ use lib.ListN.{length, getD, take, drop, set, length-take, take-append-drop, Lis
 use lib.Seq.{getD-set-same, getD-set-other, getD-take, getD-append-add}
 use Rattle.numbers.specs.Rule.{tabulate, placeOf}
 use Rattle.numbers.proofs.Cases.{cases}
+use Rattle.numbers.proofs.FirstMet.{place-holds}
 use Rattle.numbers.proofs.Stored.{length-tabulate, stored-behind}
 use Rattle.numbers.proofs.Tabulate.{tabulate-at}
 use Rattle.keys.specs.Keys.{keysIn}
 use Rattle.refine.specs.declared.Found.the-variants.{At, Nothing}
 use Rattle.refine.specs.Search.{isOld, numberBeside, foundIn, newFrom, numberOf, numbered, Agrees}
-use Rattle.refine.proofs.Places.{place-holds, new-missing, found-old, found-new}
+use Rattle.refine.proofs.Places.{new-missing, found-old, found-new}
 use Rattle.refine.proofs.Rules.{Rule}
 
 -- one number more

@@ -1,4 +1,4 @@
--- What a refinement answers and leaves in the output. Document 01, "Refinement". Definitions and claims only.
+-- What a refinement answers and leaves in the output. Document 01, "Refinement", with document 02, 2/12. Definitions and claims only.
 use Prim.Native.Nat.{ℕ, _*_, _%_}
 use mathlib.Core.Bool.{cond, not}
 use mathlib.Core.List.{List}
@@ -6,11 +6,12 @@ use lib.Dec.{eqb, ltb}
 use lib.ListN.{length}
 use Rattle.answer.specs.Answer.{Answer, answered, refused, andThen, LosesNothing}
 use Rattle.faults.specs.Faults.{firstFault}
-use Rattle.numbering.specs.Refinement.{cellCount, chain, next, childNumbers}
+use Rattle.numbering.specs.Refinement.{cellCount, chain, twisted, next, childNumbers}
 use Rattle.refine.specs.declared.Refined.{Refined}
 use Rattle.refine.specs.declared.Refined.the-variants.{Next, Refused}
 
--- "Refinement: 7 (n, then list longer than 1,024 numbers), 8 (list, then output), then cell by cell 9 before 10." "The answer is the next free number."
+-- "Refinement: 7 (n, then list longer than 1,024 numbers), 8 (list, then output), then cell by cell 9 before 10." "14, twisted face, after all cells have
+-- passed 9 and 10" "The answer is the next free number."
 unfoldable pub refined : ℕ → List ℕ → ℕ → Answer ℕ
 refined n cells room =
     cond (ltb 1024 n) (refused 7)
@@ -18,7 +19,8 @@ refined n cells room =
     (cond (not (eqb (length cells % 8) 0)) (refused 8)
     (cond (ltb room (64 * cellCount cells)) (refused 8)
     (cond (not (eqb (firstFault n 8 cells) 0)) (refused (firstFault n 8 cells))
-    (answered (next n cells))))))
+    (cond (twisted cells) (refused 14)
+    (answered (next n cells)))))))
 
 -- "Each cell's 64 child numbers go into the output part that starts at 64 times the cell's place"
 abbrev pub allChildren : ℕ → List ℕ → List ℕ

@@ -1,12 +1,13 @@
--- What the search, and the numbering of one cell's edges or faces, owe whatever the keys stand for. No public promise cites these. Definitions only.
-use Prim.Native.Nat.{ℕ, _+_, _*_, _/_, _%_, _<_}
+-- What the search, and the numbering of one cell's edges or faces, owe whatever the keys stand for. The code numbers faces by their nodes, as document 01 has it,
+-- and then looks whether those with one number have one ring. No public promise cites these. Definitions only.
+use Prim.Native.Nat.{ℕ, _+_, _*_, _-_, _/_, _%_, _≤_, _<_}
 use mathlib.Core.Path.{_≡_}
 use mathlib.Core.Bool.{Bool, cond, not}
 use mathlib.Core.List.{List, _++_}
 use lib.Dec.{eqb, ltb}
 use lib.ListN.{getD, take, drop}
 use Rattle.numbers.specs.Rule.{tabulate, count, placeOf}
-use Rattle.numbering.specs.Refinement.{centre, edgeOf, faceOf, number}
+use Rattle.numbering.specs.Refinement.{sameNodes, centre, edgeOf, faceOf, numberBy}
 use Rattle.refine.specs.declared.Found.{Found}
 use Rattle.refine.specs.declared.Found.the-variants.{At, Nothing}
 
@@ -42,16 +43,29 @@ Agrees numbers m value = (j : ℕ) → j < m → getD numbers j 0 ≡ value j
 
 -- the numbers of the edges, of the faces and of the centres, cell after cell
 abbrev pub edgeNumber : ℕ → List ℕ → ℕ → ℕ
-edgeNumber n cells j = number n cells (edgeOf cells (j / 12) (j % 12))
+edgeNumber n cells j = numberBy sameNodes n cells (edgeOf cells (j / 12) (j % 12))
 
 abbrev pub faceNumber : ℕ → List ℕ → ℕ → ℕ
-faceNumber n cells j = number n cells (faceOf cells (j / 6) (j % 6))
+faceNumber n cells j = numberBy sameNodes n cells (faceOf cells (j / 6) (j % 6))
 
 abbrev pub centreNumber : ℕ → List ℕ → ℕ → ℕ
-centreNumber n cells c = number n cells (centre c)
+centreNumber n cells c = numberBy sameNodes n cells (centre c)
 
 -- the lists hold the numbers of the first c cells
 pub record Standing (n : ℕ) (cells edges faces centers : List ℕ) (c : ℕ) : Type 0 where
   pub ofEdges : Agrees edges (12 * c) (edgeNumber n cells)
   pub ofFaces : Agrees faces (6 * c) (faceNumber n cells)
   pub ofCentres : Agrees centers c (centreNumber n cells)
+
+-- the first m of these numbers are at most 2,432 from the first one up, as many as 128 cells have edges, faces and centres
+abbrev pub Between : ℕ → List ℕ → ℕ → Type 0
+Between first numbers m = (j : ℕ) → j < m → (first ≤ getD numbers j 0) × (getD numbers j 0 < first + 2432)
+
+-- what stands in a list by number at the number of face j
+abbrev pub byNumber : ℕ → List ℕ → List ℕ → ℕ → ℕ
+byNumber first faces list j = getD list (getD faces j 0 - first) 0
+
+-- for the number of each of the first m faces, the ring of one of them that has it
+abbrev pub RingsByNumber : ℕ → List ℕ → List ℕ → ℕ → List ℕ → Type 0
+RingsByNumber first faces rings m list =
+    (j : ℕ) → j < m → (k : ℕ) × (k < m) × (getD faces k 0 ≡ getD faces j 0) × (byNumber first faces list j ≡ getD rings k 0)

@@ -1,13 +1,17 @@
 // A mesh refined: each cell is cut in eight, and what cells share gets one number.
-// An edge or a face is kept as its key, so that one search serves both and compares one number.
+// An edge or a face is kept as its key, so that one search serves both and compares one number. A face's key is its nodes; those with one number then have to
+// have one ring, or the mesh is twisted.
 ghost use mathlib.Core.Path.{_≡_};
+ghost use mathlib.Core.Bool.{cond, not};
 ghost use Prim.Native.Nat.{_+_, _*_, _^_, _<_, _≤_};
-ghost use lib.ListN.{length};
-ghost use Rattle.answer.specs.Answer.{answered, left};
+ghost use lib.Dec.{eqb};
+ghost use lib.ListN.{length, getD};
+ghost use Rattle.numbers.specs.Rule.{all};
+ghost use Rattle.answer.specs.Answer.{answered, refused, left};
 ghost use Rattle.faults.specs.Faults.{firstFault};
-ghost use Rattle.numbering.specs.Refinement.{cellCount, next};
-ghost use Rattle.refine.specs.Refine.{refined, allChildren, childrenIn, told};
-ghost use Rattle.refine.specs.Search.{foundIn, newFrom, numbered, Standing};
+ghost use Rattle.numbering.specs.Refinement.{sameNodes, twisted, cellCount, next, nextBy};
+ghost use Rattle.refine.specs.Refine.{refined, childrenIn, told};
+ghost use Rattle.refine.specs.Search.{foundIn, newFrom, numbered, Agrees, faceNumber, Standing, Between, byNumber, RingsByNumber};
 
 // The next free number, or a refusal's number.
 pub enum Refined {
@@ -74,8 +78,9 @@ fn number_cells(
 ) -> u32
     requires { ⌜ (n ≤ 1024) × (length (now cells) ≤ 1024) × (firstFault n 8 (now cells) ≡ 0) ⌝ }
     requires { ⌜ (length (now edges) ≡ 1536) × (length (now faces) ≡ 768) × (length (now centers) ≡ 128) ⌝ }
-    ensures free { λ r. ⌜ r ≡ next n (now (cells .entry)) ⌝ }
+    ensures free { λ r. ⌜ r ≡ nextBy sameNodes n (now (cells .entry)) ⌝ }
     ensures numbers { λ _. ⌜ Standing n (now (cells .entry)) (now (edges .exit)) (now (faces .exit)) (now (centers .exit)) (cellCount (now (cells .entry))) ⌝ }
+    ensures few { λ r. ⌜ r ≤ n + 19 * cellCount (now (cells .entry)) ⌝ }
 {
     let edge_keys = keys::edge_keys(cells);
     let face_keys = keys::face_keys(cells);
@@ -92,18 +97,58 @@ fn number_cells(
     free
 }
 
-// Numbers all cells, and then writes their children. The answer is the next free number.
-fn refine_cells(n: u32, cells: &[u32], out: &mut [u32]) -> u32
+// For each number of a face, from `first` up, the ring of the last face that has it.
+fn rings_by_number(first: u32, faces: &[u32], rings: &[u32], count: usize) -> [u32; 2432]
+    requires { ⌜ (count ≤ length (now faces)) × (count ≤ length (now rings)) × Between first (now faces) count ⌝ }
+    ensures { λ r. ⌜ RingsByNumber first (now (faces .entry)) (now (rings .entry)) count r ⌝ }
+{
+    let mut last = [0u32; 2432];
+    for j in 0..count {
+        last[(faces[j] - first) as usize] = rings[j];
+    }
+    last
+}
+
+// Whether some face has another ring than the one kept for its number.
+fn rings_differ(first: u32, faces: &[u32], rings: &[u32], kept: &[u32], count: usize) -> bool
+    requires { ⌜ (count ≤ length (now faces)) × (count ≤ length (now rings)) × (length (now kept) ≡ 2432) × Between first (now faces) count ⌝ }
+    ensures { λ r. ⌜ r ≡ not (all count (λ j. eqb (byNumber first (now (faces .entry)) (now (kept .entry)) j) (getD (now (rings .entry)) j 0))) ⌝ }
+{
+    for j in 0..count {
+        if kept[(faces[j] - first) as usize] != rings[j] {
+            return true;
+        }
+    }
+    false
+}
+
+// Whether two faces have the same nodes and different rings, where `faces` holds their numbers by their nodes.
+fn twisted(n: u32, cells: &[u32], faces: &[u32]) -> bool
+    requires { ⌜ (n ≤ 1024) × (length (now cells) ≤ 1024) × (firstFault n 8 (now cells) ≡ 0) × (length (now faces) ≡ 768) ⌝ }
+    requires { ⌜ Agrees (now faces) (6 * cellCount (now cells)) (faceNumber n (now cells)) × (nextBy sameNodes n (now cells) ≤ n + 2432) ⌝ }
+    ensures { λ r. ⌜ r ≡ twisted (now (cells .entry)) ⌝ }
+{
+    let count = 6 * (cells.len() / 8);
+    let rings = keys::face_rings(cells);
+    let kept = rings_by_number(n, faces, &rings, count);
+    rings_differ(n, faces, &rings, &kept, count)
+}
+
+// Numbers all cells, and then writes their children, unless a face is twisted.
+fn refine_cells(n: u32, cells: &[u32], out: &mut [u32]) -> Refined
     requires { ⌜ (n ≤ 1024) × (length (now cells) ≤ 1024) × (64 * cellCount (now cells) ≤ length (now out)) × (firstFault n 8 (now cells) ≡ 0) ⌝ }
-    ensures free { λ r. ⌜ r ≡ next n (now (cells .entry)) ⌝ }
-    ensures output { λ _. ⌜ now (out .exit) ≡ left (answered (allChildren n (now (cells .entry)))) (now (out .entry)) ⌝ }
+    ensures answer { λ r. ⌜ told r ≡ cond (twisted (now (cells .entry))) (refused 14) (answered (next n (now (cells .entry)))) ⌝ }
+    ensures output { λ r. ⌜ now (out .exit) ≡ left (childrenIn (told r) n (now (cells .entry))) (now (out .entry)) ⌝ }
 {
     let mut edges = [0u32; 1536];
     let mut faces = [0u32; 768];
     let mut centers = [0u32; 128];
     let free = number_cells(n, cells, &mut edges, &mut faces, &mut centers);
+    if twisted(n, cells, &faces) {
+        return Refined::Refused(14);
+    }
     mesh_children::write_cells(cells, &edges, &faces, &centers, out);
-    free
+    Refined::Next(free)
 }
 
 // Refines a mesh of n nodes and eight node numbers a cell, into 64 numbers a cell.
@@ -127,5 +172,5 @@ pub fn refine(n: u32, cells: &[u32], out: &mut [u32]) -> Refined
     if fault != 0 {
         return Refined::Refused(fault);
     }
-    Refined::Next(refine_cells(n, cells, out))
+    refine_cells(n, cells, out)
 }

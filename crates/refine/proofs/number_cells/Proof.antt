@@ -7,7 +7,7 @@ use borrow.Author.Needs.{needs}
 use lib.ListN.{length, length-set}
 use Rattle.numbers.specs.FirstMet.{meet}
 use Rattle.faults.proofs.Faults.{faultless-is-sound}
-use Rattle.numbering.specs.Refinement.{cellCount, chain, thingsTo, given}
+use Rattle.numbering.specs.Refinement.{sameNodes, cellCount, chain, thingsTo, givenBy}
 use Rattle.numbering.proofs.Steps.{nextAfter}
 use Rattle.keys.specs.Keys.{edgeKey, faceKey}
 use Rattle.refine.specs.Search.{Standing}
@@ -19,7 +19,7 @@ use Rattle.refine.proofs.number_cells.Tie as tie
 abbrev Inv-loop : tie.InvT-loop
 Inv-loop n cells edges₀ faces₀ centers₀ edge-keys face-keys free₀ count cell₀ edges faces centers free cell =
     (cell ≤ count) × (length edges ≡ 1536) × (length faces ≡ 768) × (length centers ≡ 128)
-    × Standing n cells edges faces centers cell × (free ≡ nextAfter n (thingsTo cells cell)) × (free ≤ n + 19 * cell)
+    × Standing n cells edges faces centers cell × (free ≡ nextAfter sameNodes n (thingsTo cells cell)) × (free ≤ n + 19 * cell)
 
 abbrev μ-loop : tie.MeasureT-loop
 μ-loop n cells edges₀ faces₀ centers₀ edge-keys face-keys free₀ count cell₀ edges faces centers free cell = count - cell
@@ -77,12 +77,12 @@ loop-again c =
     )
 
 returns : tie.Need-returns Inv-loop μ-loop
-unfolding given
+unfolding givenBy
 returns c =
     let inv = c .before .loop .inv in
     let cells = c .before .before .before .before .before .before .before .before .args .cells .now in
     let done : c .before .loop .cell ≡ cellCount cells = omega arith in
-    (rw done at (inv .5), rw done at (inv .4))
+    (rw done at (inv .5), (rw done at (inv .4), rw done at (inv .6)))
 
 pub number-cells-spec : {M : Type 1} → statement M
 number-cells-spec =

@@ -70,8 +70,7 @@ returns-6 c =
         le-ltb (length (args .out .now)) (64 * (long / 8)) (omega arith),
         ← sound .before .first-fault .ensures,
         eq-eqb (sound .before .first-fault .result) 0 (omega arith),
-        ← refined-all .refine-cells .ensures .0,
-      ),
+      ) (refined-all .refine-cells .ensures .0),
       refined-all .refine-cells .ensures .1,
     )
 

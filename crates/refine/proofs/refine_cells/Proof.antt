@@ -1,24 +1,46 @@
--- `refine::refine_cells` meets its contract: the lists hold the numbers of all cells, and so what is written from them is the numbering's. Assumes nothing.
-use Prim.Native.Nat.{ℕ}
-use mathlib.Core.Path.{ap, _∙_}
+-- `refine::refine_cells` meets its contract: the lists hold the numbers of all cells, faces by their nodes, and where no face is twisted these are the
+-- numbering's. Assumes nothing.
+use Prim.Native.Nat.{ℕ, _*_}
+use mathlib.Core.Path.{_≡_, refl, sym, ap, _∙_}
+use mathlib.Core.Bool.{false}
 use mathlib.Core.List.{List}
 use native.Mathlib.Omega.{arith}
 use borrow.Author.Needs.{needs}
 use lib.ListN.{length}
 use Rattle.answer.specs.Answer.{answered, left}
+use Rattle.numbering.specs.Refinement.{twisted}
+use Rattle.numbering.proofs.Twists.{good-meshes-keep-their-numbers}
 use Rattle.refine.proofs.Cell.{all-children}
 use Rattle.refine.proofs.refine_cells.Statement.{statement}
 use Rattle.refine.proofs.refine_cells.Tie as tie
 
+twisted-requires : tie.Need-twisted-requires
+twisted-requires c κs =
+    let numbered = c .before .before .before .before in
+    let start = numbered .before .before .before .before .before .before in
+    let few = numbered .number-cells .ensures in
+    let most = start .pre .1 in
+    ((search needs, search needs, search needs, search needs), (few .1 .0 .ofFaces, omega arith))
+
 returns : tie.Need-returns
-returns c =
+returns c = (rw (sym (c .before .twisted .ensures) ∙ c .if1 .taken), refl)
+
+returns-2 : tie.Need-returns-2
+returns-2 c =
     let wrote = c .before .before in
-    let numbered = wrote .before .before .before .before .before .before .before .before in
-    let args = numbered .before .before .before .before .before .before .args in
-    let cells = args .cells .now in
-    let children = all-children (args .n) cells _ _ _ (length (args .out .now)) (numbered .number-cells .ensures .1)
-    (omega arith, omega arith, omega arith, omega arith, omega arith) in
-    (numbered .number-cells .ensures .0, wrote .write-cells .ensures ∙ ap (λ (l : List ℕ). left (answered l) (args .out .now)) children)
+    let looked = wrote .before .before .before .before .before in
+    let numbered = looked .before .before .before .before .before .before in
+    let start = numbered .before .before .before .before .before .before in
+    let n = start .args .n in
+    let cells = start .args .cells .now in
+    let straight : twisted cells ≡ false = sym (looked .before .twisted .ensures) ∙ looked .if1 .left in
+    let kept = good-meshes-keep-their-numbers n cells straight in
+    let standing = numbered .number-cells .ensures in
+    let children = all-children n cells _ _ _ (length (start .args .out .now)) kept (standing .1 .0)
+    (omega arith, omega arith, omega arith, omega arith, omega arith) in (
+      rw straight (ap answered (standing .0 ∙ sym (kept .sameNext))),
+      wrote .write-cells .ensures ∙ ap (λ (l : List ℕ). left (answered l) (start .args .out .now)) children,
+    )
 
 pub refine-cells-spec : {M : Type 1} → statement M
 refine-cells-spec =
@@ -29,8 +51,11 @@ refine-cells-spec =
     (λ c. omega arith)
     (λ c κs. search needs)
     (λ c. omega arith)
+    twisted-requires
+    returns
+    (λ c. omega arith)
     (λ c. omega arith)
     (λ c. omega arith)
     (λ c κs. search needs)
     (λ c. omega arith)
-    returns)
+    returns-2)
