@@ -16,7 +16,7 @@
 #include <stddef.h>
 #include <stdint.h>
 
-#define ISN_VERSION "0.2.0"
+#define ISN_VERSION "0.3.0"
 
 /* Limits. Nothing allocates, so each is fixed; beyond one the answer is ISN_REFUSED_LIMIT. */
 #define ISN_MAX_NODES 1024    /* nodes in a mesh */
@@ -51,7 +51,8 @@ enum isn_answer {
     ISN_REFUSED_TWICE = 10,
     ISN_REFUSED_MARK = 11,
     ISN_REFUSED_VERSION = 12,
-    ISN_REFUSED_FILE_LENGTH = 13
+    ISN_REFUSED_FILE_LENGTH = 13,
+    ISN_REFUSED_TWISTED = 14
 };
 
 /* A returned number in words, never null. docs/REFUSALS.md adds how to mend the input; `make words` holds it and the Rust crate to
@@ -87,6 +88,8 @@ static inline const char *isn_refusal_text(uint32_t number) {
         return "the file's version is not 1";
     case ISN_REFUSED_FILE_LENGTH:
         return "the file's length is wrong: under 13 bytes, or not 13 + 24 a node + 32 a cell";
+    case ISN_REFUSED_TWISTED:
+        return "a face is twisted: two faces of the mesh have the same four nodes in different rings";
     default:
         return "no refusal of this version has this number";
     }
@@ -183,8 +186,10 @@ uint32_t isn_hex_check_proposals(const double corners[24], const isn_proposal *l
 
 /* Cuts every cell in eight: out = 64 numbers a cell, eight a child, behind one another in the order of the cells; the rest of out stays as it
  * was. Edge middles, face middles and centres are numbered from n up in the order in which they are first met; an edge or a face that cells share
- * has one number. next = the next free number. Refusals: 7 n is above 1,024, or the list holds more than 1,024 numbers; 8 the list is not whole
- * cells, or out is shorter than 64 a cell; then cell by cell 9 a node number is not below n, 10 a node stands twice in one cell. */
+ * has one number. Two faces are one where their rings, the four nodes as they run round the face, agree up to where they start and which way they
+ * turn. next = the next free number. Refusals: 7 n is above 1,024, or the list holds more than 1,024 numbers; 8 the list is not whole cells, or out
+ * is shorter than 64 a cell; then cell by cell 9 a node number is not below n, 10 a node stands twice in one cell; and where every cell has passed,
+ * 14 two faces of the mesh have the same four nodes in different rings. */
 uint32_t isn_refine(uint32_t n, const uint32_t *cells, size_t cells_len, uint32_t *out, size_t out_len, uint32_t next[1]);
 
 /* out = the place of a corner of the descendant that a path of octants leads to, in units of 2^-path_len, where the first cell is [-1,1] on each

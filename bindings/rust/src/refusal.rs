@@ -59,6 +59,7 @@ refusals! {
     Mark = 11, "the file does not begin with HXM";
     Version = 12, "the file's version is not 1";
     FileLength = 13, "the file's length is wrong: under 13 bytes, or not 13 + 24 a node + 32 a cell";
+    Twisted = 14, "a face is twisted: two faces of the mesh have the same four nodes in different rings";
 }
 
 impl Refusal {
