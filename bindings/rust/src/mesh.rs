@@ -14,7 +14,8 @@ pub struct Counts {
 
 /// Cuts every cell of a mesh of `n` nodes in eight: writes 64 node numbers a cell, eight for each
 /// child, and answers the next free number. Cells that share an edge or a face share the number of
-/// its middle. What `out` holds behind them stays.
+/// its middle. Two faces are one where their rings, the four nodes as they run round the face, agree
+/// up to where they start and which way they turn. What `out` holds behind the numbers stays.
 ///
 /// ```
 /// use isnemgul::{Refusal, mesh};
@@ -23,13 +24,18 @@ pub struct Counts {
 /// assert_eq!(mesh::refine(12, &cells, &mut out), Ok(45));
 /// assert_eq!((out[8 + 6], out[64 + 7]), (26, 26)); // the middle of the face that they share
 /// assert_eq!(mesh::refine(12, &cells, &mut out[1..]), Err(Refusal::Length));
+///
+/// // The first cell's face is 1, 2, 6, 5, the second's 5, 1, 6, 2: the same nodes, another ring.
+/// let twisted = [0, 1, 2, 3, 4, 5, 6, 7, 1, 8, 9, 5, 6, 11, 10, 2];
+/// assert_eq!(mesh::refine(12, &twisted, &mut out), Err(Refusal::Twisted));
 /// ```
 ///
 /// # Errors
 ///
 /// [`Limit`](Refusal::Limit) over 1,024 nodes or 128 cells, [`Length`](Refusal::Length) the list is
 /// not whole or the output too short, then cell by cell [`Range`](Refusal::Range) a node is not
-/// below `n`, [`Twice`](Refusal::Twice) a node stands twice.
+/// below `n`, [`Twice`](Refusal::Twice) a node stands twice, last [`Twisted`](Refusal::Twisted) two
+/// faces of the mesh have the same four nodes in different rings.
 pub fn refine(n: u32, cells: &[u32], out: &mut [u32]) -> Result<u32, Refusal> {
     let (numbers, length) = (out.as_mut_ptr(), out.len());
     // SAFETY: each list is one slice, lent for the call, and `out` to it alone.

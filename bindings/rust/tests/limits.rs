@@ -57,6 +57,20 @@ fn refine() {
     assert_eq!(seen, (0..1024 + 128 * 19).collect::<Vec<u32>>());
 }
 
+/// The last cell has the first one's nodes 1, 2, 6, 5: in its ring, and in another.
+#[test]
+fn a_face_of_the_first_and_the_last_cell() {
+    let ending =
+        |ring: [u32; 4]| boxed(&[&cells()[..1016], &ring, &[1020, 1021, 1022, 1023]].concat());
+    let mut out = boxed(&[77; 8192]);
+    let twisted = ending([1, 6, 2, 5]);
+    assert_eq!(mesh::refine(1024, &twisted, &mut out), Err(Refusal::Twisted));
+    assert_eq!(mesh::refine(1024, &twisted, &mut out[1..]), Err(Refusal::Length));
+    assert_eq!(out, boxed(&[77; 8192]));
+    let next = mesh::refine(1024, &ending([6, 2, 1, 5]), &mut out);
+    assert_eq!(next, Ok(1024 + 128 * 19 - 5));
+}
+
 #[test]
 fn descendant() {
     for depth in 0..=20 {

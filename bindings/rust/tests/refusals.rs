@@ -4,11 +4,15 @@
 use std::collections::BTreeMap;
 
 use isnemgul::hex::{self, Proposal, SIGNS};
-use isnemgul::{Point, Refusal, mat3, mesh, prism};
+use isnemgul::mesh::{self, Counts};
+use isnemgul::{Point, Refusal, mat3, prism};
 
 use Refusal::*;
 
 const CELL: [u32; 8] = [0, 1, 2, 3, 4, 5, 6, 7];
+
+/// Of the second cell a face runs 5, 1, 6, 2, of the first one 1, 2, 6, 5.
+const TWISTED: [u32; 16] = [0, 1, 2, 3, 4, 5, 6, 7, 1, 8, 9, 5, 6, 11, 10, 2];
 
 /// Two cells, edited.
 fn two_cells(edit: fn(&mut [u32])) -> Vec<u32> {
@@ -31,7 +35,7 @@ fn page() -> BTreeMap<u32, &'static str> {
 fn numbers_and_words() {
     let mut words = page();
     assert_eq!(words.remove(&0), Some("answered"));
-    assert!(words.len() >= 13);
+    assert!(words.len() >= 14);
     for number in (0..1000).chain(words.keys().copied()).chain([u32::MAX]) {
         let refusal = Refusal::from_number(number);
         assert_eq!(refusal.map(Refusal::words), words.get(&number).copied(), "{number}");
@@ -147,12 +151,52 @@ fn refine() {
         (0, CELL.to_vec(), 64, Range),
     ];
     for (n, cells, room, refusal) in cases {
-        let mut out = vec![77; room];
-        assert_eq!(mesh::refine(n, &cells, &mut out), Err(refusal));
-        assert_eq!(out, vec![77; room]);
+        refine_refuses(n, &cells, room, refusal);
     }
     assert!(mesh::refine(8, &many[..1024], &mut vec![0; 8192]).is_ok());
     assert_eq!(mesh::refine(5, &[], &mut []), Ok(5));
+}
+
+fn refine_refuses(n: u32, cells: &[u32], room: usize, refusal: Refusal) {
+    let mut out = vec![77; room];
+    assert_eq!(mesh::refine(n, cells, &mut out), Err(refusal));
+    assert_eq!(out, vec![77; room]);
+}
+
+/// The last refusal: a short output comes before it, and what is wrong with a cell, also with one
+/// that stands behind the twisted pair.
+#[test]
+fn twisted() {
+    let with = |third: [u32; 8]| [&TWISTED[..], &third].concat();
+    refine_refuses(12, &TWISTED, 128, Twisted);
+    refine_refuses(12, &TWISTED, 129, Twisted);
+    refine_refuses(12, &with(CELL), 192, Twisted);
+    refine_refuses(12, &TWISTED, 127, Length);
+    refine_refuses(11, &TWISTED, 128, Range);
+    refine_refuses(12, &with([0, 1, 2, 3, 4, 5, 6, 12]), 192, Range);
+    refine_refuses(12, &with([0, 0, 2, 3, 4, 5, 6, 7]), 192, Twice);
+    let glued = [0, 1, 2, 3, 4, 5, 6, 7, 1, 8, 9, 2, 5, 11, 10, 6];
+    assert_eq!(mesh::refine(12, &glued, &mut [0; 128]), Ok(45));
+}
+
+/// A face with the nodes 1, 2, 6, 5 in each of their 24 orders: the eight turns of this ring are one
+/// face with it, the other orders are twisted.
+#[test]
+fn rings() {
+    let ways = [[1, 2, 6, 5], [5, 6, 2, 1]];
+    let turn = |ring: [u32; 4], start| std::array::from_fn(|k| ring[(start + k) % 4]);
+    let turns: Vec<[u32; 4]> = (0..8).map(|i| turn(ways[i / 4], i % 4)).collect();
+    let lists = (0..256).map(|i| [i / 64, i / 16, i / 4, i].map(|k| ways[0][k % 4]));
+    let orders = lists.filter(|list| ways[0].iter().all(|node| list.contains(node)));
+    let (same, others): (Vec<_>, Vec<_>) = orders.partition(|order| turns.contains(order));
+    assert_eq!((same.len(), others.len()), (8, 16));
+    let glued = |ring: [u32; 4]| [&CELL[..], &ring, &[8, 9, 10, 11]].concat();
+    for ring in same {
+        assert_eq!(mesh::refine(12, &glued(ring), &mut [0; 128]), Ok(45), "{ring:?}");
+    }
+    for ring in others {
+        refine_refuses(12, &glued(ring), 128, Twisted);
+    }
 }
 
 #[test]
@@ -200,6 +244,19 @@ fn read() {
     assert_eq!(mesh::read(&good, &mut nodes[..23], &mut cells), Err(Length));
     assert_eq!(mesh::read(&good, &mut nodes, &mut cells[..7]), Err(Length));
     assert_eq!((nodes, cells), ([77; 24], [77; 8]));
+}
+
+/// A mesh file may be twisted: neither the writer nor the reader looks at faces.
+#[test]
+fn twisted_file() {
+    let nodes = [0; 36];
+    let mut out = [77; 365];
+    assert_eq!(mesh::write(&nodes, &TWISTED, &mut out), Ok(365));
+    assert_eq!(out[..], file(12, &TWISTED));
+    let (mut same_nodes, mut same_cells) = ([77; 36], [77; 16]);
+    let counts = mesh::read(&out, &mut same_nodes, &mut same_cells);
+    assert_eq!(counts, Ok(Counts { nodes: 12, cells: 2 }));
+    assert_eq!((same_nodes, same_cells), (nodes, TWISTED));
 }
 
 /// Each refusal has one later in the order beside it where there can be one; there is no room, or
