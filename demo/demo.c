@@ -1,6 +1,6 @@
 /* Where does the thermocouple sit? A probe is buried in a cast block that is meshed by one hexahedron and one prism.
- * Then a mesh of two hexahedra is refined, and the node numbers of the sixteen children are printed. Last the mesh is written as a file,
- * the file is read, and what was read is compared with what was written. */
+ * Then a mesh of two hexahedra is refined, and the node numbers of the sixteen children are printed; one whose second cell is glued on with a
+ * twist is refused. Last the mesh is written as a file, the file is read, and what was read is compared with what was written. */
 #include <stdio.h>
 #include <string.h>
 #include "isnemgul.h"
@@ -63,17 +63,21 @@ static const double places[36] = {
     0.3, 0, 0,   0.3, 0.1, 0, 0.3, 0.1, 0.1, 0.3, 0,   0.1, /* 8 to 11 */
 };
 
-/* The table that `hexkids` prints for a mesh file with these cells. */
-static void refine(void) {
+/* The same nodes: the second cell's face has the nodes 1, 2, 6, 5 too, and they run 5, 1, 6, 2. */
+static const uint32_t twisted[16] = {0, 1, 2, 3, 4, 5, 6, 7, 1, 8, 9, 5, 6, 11, 10, 2};
+
+/* The table that `hexkids` prints for a mesh file with these two cells; a refusal is said in words. */
+static uint32_t refine(const uint32_t mesh[16]) {
     uint32_t children[2 * ISN_REFINED_NUMBERS], next;
-    uint32_t answer = isn_refine(12, cells, 16, children, 2 * ISN_REFINED_NUMBERS, &next);
+    uint32_t answer = isn_refine(12, mesh, 16, children, 2 * ISN_REFINED_NUMBERS, &next);
     if (answer != ISN_OK) {
         say_refused(answer);
-        return;
+        return answer;
     }
     printf("cells 16 nodes %u\n", (unsigned)next);
     for (size_t i = 0; i < 2 * ISN_REFINED_NUMBERS; i++)
         printf("%u%c", (unsigned)children[i], i % 8 == 7 ? '\n' : ' ');
+    return ISN_OK;
 }
 
 /* The lists own the counts: the file holds as many nodes and cells as they do. Answers whether the file gives both lists back, bit for bit. */
@@ -100,7 +104,10 @@ static int write_and_read(void) {
 int main(void) {
     locate();
     printf("\nTwo cells that share the face 1 2 6 5, refined: its middle is node 26 in both.\n");
-    refine();
-    printf("\nThe same two cells and the places of their 12 nodes, as a mesh file.\n");
+    refine(cells);
+    printf("\nThe second cell glued on with a twist: the face 1 2 6 5 of the first is 5 1 6 2 in the second.\n");
+    if (refine(twisted) == ISN_REFUSED_TWISTED)
+        printf("Both rings have the sides 1 5 and 2 6, and the other two differ. Look for two nodes exchanged: here 2 and 6 in the second cell.\n");
+    printf("\nThe first two cells and the places of their 12 nodes, as a mesh file.\n");
     return write_and_read() ? 0 : 1;
 }
