@@ -34,6 +34,14 @@ static int same_face(const uint32_t *p, const int *a, const uint32_t *q, const i
     return has(q, b, p[a[0]]) && has(q, b, p[a[1]]) && has(q, b, p[a[2]]) && has(q, b, p[a[3]]);
 }
 
+/* Of two faces with the same nodes: the rings agree where the same node stands opposite the first. */
+static int same_ring(const uint32_t *p, const int *a, const uint32_t *q, const int *b) {
+    int j = 0;
+    while (q[b[j]] != p[a[0]])
+        j++;
+    return q[b[(j + 2) % 4]] == p[a[2]];
+}
+
 uint32_t plain_refine(uint32_t n, const uint32_t *cells, size_t cells_len, uint32_t *out, size_t out_len, uint32_t next[1]) {
     uint32_t numbers[128][27];
     size_t count = cells_len / 8;
@@ -65,6 +73,8 @@ uint32_t plain_refine(uint32_t n, const uint32_t *cells, size_t cells_len, uint3
             for (size_t d = 0; d < c; d++)
                 for (int f = 0; f < 6; f++)
                     if (same_face(cell, FACES[e], cells + 8 * d, FACES[f])) {
+                        if (!same_ring(cell, FACES[e], cells + 8 * d, FACES[f]))
+                            return 14;
                         mine[20 + e] = numbers[d][20 + f];
                         goto next_face;
                     }
@@ -72,9 +82,10 @@ uint32_t plain_refine(uint32_t n, const uint32_t *cells, size_t cells_len, uint3
         next_face:;
         }
         mine[26] = n++;
-        for (int i = 0; i < 64; i++)
-            out[64 * c + i] = mine[CHILDREN[i / 8][i % 8]];
     }
+    for (size_t c = 0; c < count; c++)
+        for (int i = 0; i < 64; i++)
+            out[64 * c + i] = numbers[c][CHILDREN[i / 8][i % 8]];
     next[0] = n;
     return 0;
 }

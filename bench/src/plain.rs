@@ -66,27 +66,52 @@ fn face(cell: &[u32; 8], f: usize) -> [u32; 4] {
     std::array::from_fn(|j| cell[IDX2NODE[4 * f + j]])
 }
 
-/// The numbers of a cell's edges or faces, by a search over those of earlier cells.
+/// Of two faces with the same nodes: the rings agree where the same node stands opposite the first.
+fn same_ring(a: [u32; 4], b: [u32; 4]) -> bool {
+    (0..4).any(|j| b[j] == a[0] && b[(j + 2) % 4] == a[2])
+}
+
+/// The earlier cell, and which of its edges or faces, where these nodes are first met.
+fn find<const W: usize, const N: usize>(
+    own: [u32; N],
+    earlier: &[[u32; 8]],
+    nodes: impl Fn(&[u32; 8], usize) -> [u32; N],
+) -> Option<(usize, usize)> {
+    for (d, cell) in earlier.iter().enumerate() {
+        for f in 0..W {
+            if same(own, nodes(cell, f)) {
+                return Some((d, f));
+            }
+        }
+    }
+    None
+}
+
+/// The numbers of a cell's edges or faces. One that is found by its nodes has to agree, or is
+/// twisted.
 fn number<const W: usize, const N: usize>(
     cells: &[[u32; 8]],
     numbers: &mut Vec<[u32; W]>,
     nodes: impl Fn(&[u32; 8], usize) -> [u32; N],
+    agree: impl Fn([u32; N], [u32; N]) -> bool,
     next: &mut u32,
-) {
-    let cell = &cells[numbers.len()];
-    let mine = std::array::from_fn(|e| {
+) -> Result<(), u32> {
+    let (earlier, cell) = (&cells[..numbers.len()], &cells[numbers.len()]);
+    let mut mine = [0; W];
+    for (e, number) in mine.iter_mut().enumerate() {
         let own = nodes(cell, e);
-        for (earlier, theirs) in cells.iter().zip(numbers.iter()) {
-            for (f, &found) in theirs.iter().enumerate() {
-                if same(own, nodes(earlier, f)) {
-                    return found;
-                }
+        if let Some((d, f)) = find::<W, N>(own, earlier, &nodes) {
+            if !agree(own, nodes(&earlier[d], f)) {
+                return Err(14);
             }
+            *number = numbers[d][f];
+        } else {
+            *number = *next;
+            *next += 1;
         }
-        *next += 1;
-        *next - 1
-    });
+    }
     numbers.push(mine);
+    Ok(())
 }
 
 #[inline(never)]
@@ -100,12 +125,16 @@ pub fn refine(n: u32, cells: &[u32], out: &mut [u32]) -> Result<u32, u32> {
     let (cells, _) = cells.as_chunks::<8>();
     faults(n, cells.iter().copied())?;
     let (mut edges, mut faces) = (Vec::with_capacity(128), Vec::with_capacity(128));
+    let mut centers = Vec::with_capacity(128);
     let mut next = n;
-    for (c, cell) in cells.iter().enumerate() {
-        number(cells, &mut edges, edge, &mut next);
-        number(cells, &mut faces, face, &mut next);
-        let children = subdivide(cell, &edges[c], &faces[c], next);
+    for _ in cells {
+        number(cells, &mut edges, edge, |_, _| true, &mut next)?;
+        number(cells, &mut faces, face, same_ring, &mut next)?;
+        centers.push(next);
         next += 1;
+    }
+    for (c, cell) in cells.iter().enumerate() {
+        let children = subdivide(cell, &edges[c], &faces[c], centers[c]);
         out[64 * c..64 * c + 64].copy_from_slice(children.as_flattened());
     }
     Ok(next)
