@@ -180,7 +180,7 @@ fn twisted() {
 }
 
 /// A face with the nodes 1, 2, 6, 5 in each of their 24 orders: the eight turns of this ring are one
-/// face with it, the other orders are twisted.
+/// face with it, the other orders are twisted. One with three of the nodes is another face.
 #[test]
 fn rings() {
     let ways = [[1, 2, 6, 5], [5, 6, 2, 1]];
@@ -191,6 +191,7 @@ fn rings() {
     let (same, others): (Vec<_>, Vec<_>) = orders.partition(|order| turns.contains(order));
     assert_eq!((same.len(), others.len()), (8, 16));
     let glued = |ring: [u32; 4]| [&CELL[..], &ring, &[8, 9, 10, 11]].concat();
+    assert_eq!(mesh::refine(13, &glued([1, 2, 6, 12]), &mut [0; 128]), Ok(49));
     for ring in same {
         assert_eq!(mesh::refine(12, &glued(ring), &mut [0; 128]), Ok(45), "{ring:?}");
     }
