@@ -67,7 +67,7 @@ writer-refuses room nodes cells = search (refuses-unless, refuses-then, written-
 
 refined-refuses : (n : ℕ) (cells : List ℕ) (room : ℕ) → RefusesBy refineNumbers (refined n cells room)
 unfolding refined
-refined-refuses n cells room = search (refuses-unless, unless-faulty refineNumbers tt tt) depth 7
+refined-refuses n cells room = search (refuses-unless, unless-faulty refineNumbers tt tt) depth 8
 
 pub refusals-numbered : RefusalsNumbered
 refusals-numbered =

@@ -28,9 +28,9 @@ fileNumbers = 13 ∷ 11 ∷ 12 ∷ 7 ∷ 9 ∷ 10 ∷ 8 ∷ []
 abbrev pub writeNumbers : List ℕ
 writeNumbers = 7 ∷ 8 ∷ 9 ∷ 10 ∷ []
 
--- "Refinement: 7 .., 8 .., then cell by cell 9 before 10"
+-- "Refinement: 7 .., 8 .., then cell by cell 9 before 10", and document 02, 2/12: "14, twisted face, after all cells have passed 9 and 10"
 abbrev pub refineNumbers : List ℕ
-refineNumbers = 7 ∷ 8 ∷ 9 ∷ 10 ∷ []
+refineNumbers = 7 ∷ 8 ∷ 9 ∷ 10 ∷ 14 ∷ []
 
 -- Every entry that can refuse does so by one of these numbers, whatever it is asked. Those that are not listed refuse nothing.
 pub record RefusalsNumbered : Type 0 where

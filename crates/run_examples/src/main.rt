@@ -8,10 +8,16 @@ use libc::STDIN_FILENO;
 use libc::STDOUT_FILENO;
 use probe::Checked;
 use refine::Refined;
-ghost use Prim.Native.Nat.{_≤_};
+ghost use Prim.Native.Nat.{_≤_, _<_};
+ghost use lib.ListN.{length};
 
 // The two cells of document 01's example, which share a face.
 const TWO_CELLS: [u32; 16] = [0, 1, 2, 3, 4, 5, 6, 7, 1, 8, 9, 2, 5, 11, 10, 6];
+
+// The second of these cells has face 1, 2, 6, 5 of the first one too, but goes round it 5, 1, 6, 2. Behind them stands a cell that is good.
+const TWISTED: [u32; 24] = [
+    0, 1, 2, 3, 4, 5, 6, 7, 1, 8, 9, 5, 6, 11, 10, 2, 0, 1, 2, 3, 4, 5, 6, 7,
+];
 
 fn say(number: u32) {
     io::write_all(STDOUT_FILENO, b" ");
@@ -193,6 +199,81 @@ fn short_output() {
     end_line();
 }
 
+// Refines the twisted pair, or so many numbers from its start, into so much room; and what the refusal left at the ends of the output.
+fn refine_twisted(label: &[u8], n: u32, numbers: usize, room: usize)
+    requires { ⌜ (numbers ≤ 24) × (room ≤ 192) ⌝ }
+{
+    let cells = TWISTED;
+    let mut out = [1u32; 192];
+    io::write_all(STDOUT_FILENO, label);
+    say_refined(refine::refine(n, &cells[0..numbers], &mut out[0..room]));
+    io::write_all(STDOUT_FILENO, b"what the refusal left in it:");
+    say(out[0]);
+    say(out[127]);
+    end_line();
+}
+
+// The twisted pair and a third cell, 0 and `second`, 2 .. 6 and `last`.
+fn with_third(label: &[u8], second: u32, last: u32) {
+    let mut cells = TWISTED;
+    cells[17] = second;
+    cells[23] = last;
+    let mut out = [1u32; 192];
+    io::write_all(STDOUT_FILENO, label);
+    say_refined(refine::refine(12, &cells, &mut out));
+}
+
+// Each place of the refinement's order, where the twisted face is there too.
+fn twisted() {
+    refine_twisted(b"a twisted face:", 12, 16, 128);
+    refine_twisted(b"and a third cell:", 12, 24, 192);
+    refine_twisted(b"twisted, of 1,025 nodes:", 1025, 16, 128);
+    refine_twisted(b"twisted, 17 numbers:", 12, 17, 128);
+    refine_twisted(b"twisted, room for 127 numbers:", 12, 16, 127);
+    refine_twisted(b"twisted, of 11 nodes:", 11, 16, 128);
+    with_third(b"twisted, and a third cell with node 12 of 12:", 1, 12);
+    with_third(b"twisted, and a third cell with node 0 twice:", 0, 7);
+}
+
+// The cell 0..7 and another one.
+fn besides(label: &[u8], n: u32, cell: [u32; 8]) {
+    let cells = [
+        0, 1, 2, 3, 4, 5, 6, 7, cell[0], cell[1], cell[2], cell[3], cell[4], cell[5], cell[6], cell[7],
+    ];
+    refine(label, n, &cells);
+}
+
+fn neighbours() {
+    besides(b"a cell twice:", 8, [0, 1, 2, 3, 4, 5, 6, 7]);
+    besides(b"a cell and its mirror:", 8, [0, 3, 2, 1, 4, 7, 6, 5]);
+    besides(b"a cell with nodes 2 and 3 exchanged:", 8, [0, 1, 3, 2, 4, 5, 6, 7]);
+    besides(b"three nodes of a face in common:", 13, [1, 2, 6, 12, 8, 9, 10, 11]);
+}
+
+// What the cell 0..7 and one whose bottom is these four nodes answer.
+fn order(a: u32, b: u32, c: u32, d: u32) {
+    let cells = [0, 1, 2, 3, 4, 5, 6, 7, a, b, c, d, 8, 9, 10, 11];
+    let mut out = [0u32; 128];
+    match refine::refine(12, &cells, &mut out) {
+        Refined::Next(next) => say(next),
+        Refined::Refused(number) => say(number),
+    }
+}
+
+// The six orders that begin with a.
+fn orders(a: u32, b: u32, c: u32, d: u32) {
+    io::write_all(STDOUT_FILENO, b"orders that begin with");
+    say(a);
+    io::write_all(STDOUT_FILENO, b":");
+    order(a, b, c, d);
+    order(a, b, d, c);
+    order(a, c, b, d);
+    order(a, c, d, b);
+    order(a, d, b, c);
+    order(a, d, c, b);
+    end_line();
+}
+
 fn descended() {
     let path = [6u32; 21];
     let outside = [8u32; 1];
@@ -245,25 +326,43 @@ fn say_written(found: Writing) {
     }
 }
 
-// The next file, read and written again into a buffer with three bytes more.
-fn again() {
-    let mut bytes = [0u8; 237];
-    io::read_full(STDIN_FILENO, &mut bytes);
+// A file of eight nodes and so many numbers, read and written again into a longer buffer.
+fn again(bytes: &[u8], numbers: usize)
+    requires { ⌜ (numbers ≤ 16) × (length (now bytes) < 272) ⌝ }
+{
     let mut nodes = [0u64; 24];
-    let mut cells = [0u32; 8];
-    let mut out = [7u8; 240];
-    io::write_all(STDOUT_FILENO, b"the sample file, read:");
-    say_read(hxm::read(&bytes, &mut nodes, &mut cells));
+    let mut cells = [0u32; 16];
+    let mut out = [7u8; 272];
+    io::write_all(STDOUT_FILENO, b"read:");
+    say_read(hxm::read(bytes, &mut nodes, &mut cells));
     io::write_all(STDOUT_FILENO, b"and written again:");
-    say_written(hxm_write::write(&nodes, &cells, &mut out));
-    if check::same(&bytes, &out[0..237]) {
+    say_written(hxm_write::write(&nodes, &cells[0..numbers], &mut out));
+    if check::same(bytes, &out[0..bytes.len()]) {
         io::write_all(STDOUT_FILENO, b"the same bytes, and behind them:");
     } else {
         io::write_all(STDOUT_FILENO, b"other bytes, and behind them:");
     }
-    say_byte(out[237]);
-    say_byte(out[239]);
+    say_byte(out[bytes.len()]);
+    say_byte(out[271]);
     end_line();
+}
+
+fn sample_again() {
+    let mut bytes = [0u8; 237];
+    io::read_full(STDIN_FILENO, &mut bytes);
+    io::write_all(STDOUT_FILENO, b"the sample file, ");
+    again(&bytes, 8);
+}
+
+// The next file has the cell 0..7 twice, nodes 2 and 3 exchanged in the second one.
+fn twisted_file() {
+    let mut bytes = [0u8; 269];
+    io::read_full(STDIN_FILENO, &mut bytes);
+    let mut text = [0u8; 90146];
+    let end = kids::list(&bytes, &mut text);
+    io::write_all(STDOUT_FILENO, b"a file with a twisted face: ");
+    io::write_all(STDOUT_FILENO, &text[..end]);
+    again(&bytes, 16);
 }
 
 // Writes so many words and numbers, zeros behind the cell 0..6 and `last`, into a buffer; and what the refusal left at the buffer's ends.
@@ -307,6 +406,12 @@ fn main() {
     short_output();
     with_last_node(b"node 12 of 12:", 12);
     with_last_node(b"node 8 twice:", 8);
+    twisted();
+    neighbours();
+    orders(1, 2, 6, 5);
+    orders(2, 1, 5, 6);
+    orders(6, 5, 1, 2);
+    orders(5, 6, 2, 1);
     descended();
     file(b"the sample file:\n");
     file(b"another mark: ");
@@ -320,7 +425,8 @@ fn main() {
     read_into(23, 9);
     read_into(25, 7);
     read_into(25, 9);
-    again();
+    sample_again();
     unwritten();
+    twisted_file();
     file(b"12 bytes: ");
 }

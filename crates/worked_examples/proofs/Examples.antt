@@ -8,8 +8,12 @@ use Rattle.numbers.specs.Little.{bytes, allBytes}
 use Rattle.faults.specs.Faults.{faultAt, firstTo}
 use Rattle.descendant.specs.Place.{sign, place, descended}
 use Rattle.hxm_write.specs.Writes.{fileFor, fileInto}
+use Rattle.numbers.specs.FirstMet.{meet}
+use Rattle.numbering.specs.Refinement.{chain, twisted, givenBy}
+use Rattle.refine.specs.Refine.{refined}
 use Rattle.worked_examples.specs.Examples.{ExamplesHold}
 
 pub examples-hold : ExamplesHold
-unfolding add sub mul div neg ofBits le lt eq maskOf imageAt goodCorners checked sign place descended bytes allBytes faultAt firstTo fileFor fileInto
+unfolding add sub mul div neg ofBits le lt eq maskOf imageAt goodCorners checked sign place descended bytes allBytes faultAt firstTo fileFor fileInto meet chain
+    twisted givenBy refined
 examples-hold = refl

@@ -2,7 +2,7 @@
 -- Definitions and the claim only.
 use Prim.Native.Nat.{ℕ}
 use mathlib.Core.Path.{_≡_}
-use mathlib.Core.Bool.{cond}
+use mathlib.Core.Bool.{Bool, true, false, cond}
 use mathlib.Core.List.{List, [], _∷_, _++_, map}
 use lib.Dec.{eqb}
 use lib.Ieee.{Float, binary64, ofBits}
@@ -19,8 +19,11 @@ use Rattle.hex_iso_position.specs.Position.{isoPosition}
 use Rattle.probe.specs.Check.{checked}
 use Rattle.descendant.specs.Place.{descended}
 use Rattle.hxm_write.specs.Writes.{fileInto, lengthOf}
+use Rattle.numbering.specs.Refinement.{sameNodes, sameRing, nextBy}
+use Rattle.refine.specs.Refine.{refined}
 
--- what an entry answers: floats, a whole number, a place in whole numbers, an acceptance, or the bytes of a file; or what a lent buffer holds then
+-- what an entry answers: floats, a whole number, a place in whole numbers, an acceptance, or the bytes of a file; or what a lent buffer holds then; or what a
+-- definition decides
 pub data Said : Type 0 where
   floats : Answer (List Float) → Said
   number : Answer ℕ → Said
@@ -28,6 +31,7 @@ pub data Said : Type 0 where
   verdict : Answer (Unit {0}) → Said
   file : Answer (List ℕ) → Said
   buffer : List ℕ → Said
+  decided : Bool → Said
 
 -- which example it is: the P number of document 01, or the number of document 02's request
 pub data Source : Type 0 where
@@ -109,6 +113,17 @@ sample =
     0x48 ∷ 0x58 ∷ 0x4d ∷ 1 ∷ 0 ∷ 8 ∷ 0 ∷ 0 ∷ 0 ∷ 1 ∷ 0 ∷ 0 ∷ 0 ∷ many 192 0
     ++ (0 ∷ 0 ∷ 0 ∷ 0 ∷ 1 ∷ 0 ∷ 0 ∷ 0 ∷ 2 ∷ 0 ∷ 0 ∷ 0 ∷ 3 ∷ 0 ∷ 0 ∷ 0 ∷ 4 ∷ 0 ∷ 0 ∷ 0 ∷ 5 ∷ 0 ∷ 0 ∷ 0 ∷ 6 ∷ 0 ∷ 0 ∷ 0 ∷ 7 ∷ 0 ∷ 0 ∷ 0 ∷ [])
 
+-- the cell 0..7 and another one
+abbrev besides : List ℕ → List ℕ
+besides cell = tabulate 8 (λ (k : ℕ). k) ++ cell
+
+abbrev glued : List ℕ
+glued = besides (1 ∷ 8 ∷ 9 ∷ 2 ∷ 5 ∷ 11 ∷ 10 ∷ 6 ∷ [])
+
+-- face 4 of the second cell runs 5, 1, 6, 2
+abbrev spoiled : List ℕ
+spoiled = besides (1 ∷ 8 ∷ 9 ∷ 5 ∷ 6 ∷ 11 ∷ 10 ∷ 2 ∷ [])
+
 abbrev pub examples : List Example
 examples =
     -- "P1 Hex shape at (1,1,1): 1 at node 6, +0 elsewhere. P2 Prism at (0,0,1): 1 at node 3."
@@ -142,6 +157,16 @@ examples =
     ∷ requested 1 (number (lengthOf (sampleInto 240))) (number (answered 237))
     ∷ requested 1 (buffer (left (sampleInto 240) (many 240 7))) (buffer (sample ++ many 3 7))
     ∷ requested 1 (file (sampleInto 236)) (file (refused 8))
+    -- 2/12: 1, 2, 6, 5 and 6, 2, 1, 5 are one ring; 1, 2, 6, 5 and 1, 6, 2, 5 have the same nodes and are not
+    ∷ requested 2 (decided (sameRing (1 ∷ 2 ∷ 6 ∷ 5 ∷ []) (6 ∷ 2 ∷ 1 ∷ 5 ∷ []))) (decided true)
+    ∷ requested 2 (decided (sameRing (1 ∷ 2 ∷ 6 ∷ 5 ∷ []) (1 ∷ 6 ∷ 2 ∷ 5 ∷ []))) (decided false)
+    ∷ requested 2 (decided (sameNodes (1 ∷ 2 ∷ 6 ∷ 5 ∷ []) (1 ∷ 6 ∷ 2 ∷ 5 ∷ []))) (decided true)
+    -- two cells that share a face have the next free number that they had; with its ring spoiled, where document 01's rule had two edges more, they are refused,
+    -- but for want of room first
+    ∷ requested 2 (number (refined 12 glued 128)) (number (answered 45))
+    ∷ requested 2 (number (answered (nextBy sameNodes 12 spoiled))) (number (answered 47))
+    ∷ requested 2 (number (refined 12 spoiled 128)) (number (refused 14))
+    ∷ requested 2 (number (refined 12 spoiled 127)) (number (refused 8))
     ∷ []
 
 -- "The P examples are one list with a single proved claim on the definitions"
