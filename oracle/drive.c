@@ -148,7 +148,7 @@ static void *has_to(size_t buffer) {
 
 /* ---- the counts of a function ---- */
 
-enum { FUNCTIONS = 29, NUMBERS = 14, SHOWN = 3 };
+enum { FUNCTIONS = 29, NUMBERS = 15, SHOWN = 3 };
 enum { MUST_ACCEPT = 1, MUST_REFUSE = 2, EITHER = 3 };
 
 static struct function {

@@ -305,24 +305,52 @@ def refused_cell(n, cell):
     return 0
 
 
-def refine(n, numbers, room):
-    """Outputs: the next free number, and 64 numbers for each cell."""
+def by_nodes(ring):
+    """Document 01: two faces are one when they have the same four nodes."""
+    return frozenset(ring)
+
+
+def by_sides(ring):
+    """Document 02, 2/12: two faces are one when they have the same four sides, each of them two nodes whichever way round."""
+    return frozenset(frozenset((ring[i - 1], ring[i])) for i in range(4))
+
+
+def rings_of(cell):
+    return [[cell[k] for k in face] for face in FACE2NODE]
+
+
+def twisted(cells):
+    """Whether two faces of the mesh have the same four nodes and not the same sides."""
+    sides = {}
+    return any(sides.setdefault(by_nodes(ring), by_sides(ring)) != by_sides(ring) for cell in cells for ring in rings_of(cell))
+
+
+def cells_of(numbers):
+    return [tuple(numbers[i : i + 8]) for i in range(0, len(numbers), 8)]
+
+
+def refused_mesh(n, numbers, room):
+    """Document 01: 0, 7, 8, 9 or 10."""
     if n > MOST_NODES or len(numbers) > 8 * MOST_CELLS:
-        return 7, None
+        return 7
     if len(numbers) % 8 != 0 or room < 8 * len(numbers):
-        return 8, None
-    cells = [tuple(numbers[i : i + 8]) for i in range(0, len(numbers), 8)]
-    for cell in cells:
+        return 8
+    for cell in cells_of(numbers):
         number = refused_cell(n, cell)
         if number != 0:
-            return number, None
+            return number
+    return 0
+
+
+def numbered(n, cells, face_key):
+    """The next free number, and 64 numbers for each cell; faces with the same key are one."""
     given = {}
     free = n
     children = []
     for cell in cells:
         named = list(cell)
-        for ends in EDGE2NODE + FACE2NODE:
-            key = frozenset([cell[k] for k in ends])
+        keys = [frozenset([cell[a], cell[b]]) for a, b in EDGE2NODE] + [face_key(ring) for ring in rings_of(cell)]
+        for key in keys:
             number = given.setdefault(key, free)
             if number == free:
                 free += 1
@@ -330,7 +358,24 @@ def refine(n, numbers, room):
         named.append(free)
         free += 1
         children.extend([named[slot] for slot in SLOTS])
-    return 0, (free, children)
+    return free, children
+
+
+def refine_01(n, numbers, room):
+    """What document 01 answered: see `refine`."""
+    number = refused_mesh(n, numbers, room)
+    return (number, None) if number != 0 else (0, numbered(n, cells_of(numbers), by_nodes))
+
+
+def refine(n, numbers, room):
+    """Outputs: the next free number, and 64 numbers for each cell."""
+    number = refused_mesh(n, numbers, room)
+    if number != 0:
+        return number, None
+    cells = cells_of(numbers)
+    if twisted(cells):
+        return 14, None
+    return 0, numbered(n, cells, by_sides)
 
 
 def descendant(path, corner):

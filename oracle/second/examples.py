@@ -1,8 +1,10 @@
 """The worked examples of document 01 on the additions, with the numbers as printed there, and those of document 02's requests: looked at on every run."""
 
+import itertools
 import struct
+from collections import Counter
 
-from answers import HEX_SIGN, Cell, Place, check, descendant, hxm_read, hxm_write, locate_checked, refine
+from answers import HEX_SIGN, Cell, Place, by_nodes, by_sides, check, descendant, hxm_read, hxm_write, locate_checked, refine, refine_01
 
 CHILDREN = """
 0 8 20 11 16 21 26 24
@@ -26,6 +28,7 @@ ODD_FILE = """
 def hold():
     hold_scope()
     hold_writing()
+    hold_rings()
 
 
 def hold_scope():
@@ -93,3 +96,42 @@ def hold_writing():
     assert (number, length) == (0, 365)
     assert hxm_read(data, 36, 16) == (0, (12, 2, tuple(nodes), tuple(cells)))
     assert hxm_write(*hxm_read(data, 36, 16)[1][2:], 365) == (0, (365, data))
+
+
+def hold_rings():
+    """Document 02, 2/12."""
+    one, other = (1, 2, 6, 5), (1, 6, 2, 5)
+    assert by_sides(one) == by_sides((6, 2, 1, 5))
+    assert by_sides(one) != by_sides(other) and by_nodes(one) == by_nodes(other)
+    assert len(by_sides(one) & by_sides(other)) == 2  # "two of the edges differ"
+    orders = list(itertools.permutations(one))
+    assert sorted(Counter(map(by_sides, orders)).values()) == [8, 8, 8]
+
+    # the next free number, or the refusal; and by document 01's rule
+    def told(call, n, cells, room):
+        number, outputs = call(n, cells, room)
+        return outputs[0] if number == 0 else f"refused {number}"
+
+    cell = list(range(8))
+    answer = lambda n, *cells: told(refine, n, sum(cells, []), 64 * len(cells))
+    answer_01 = lambda n, *cells: told(refine_01, n, sum(cells, []), 64 * len(cells))
+    twisted = [1, 8, 9, 5, 6, 11, 10, 2]  # its f4 runs 5, 1, 6, 2
+    assert answer(12, cell, [1, 8, 9, 2, 5, 11, 10, 6]) == 45
+    assert answer(12, cell, twisted) == "refused 14" and answer_01(12, cell, twisted) == 47
+    assert Counter(answer(12, cell, [*ring, 8, 9, 10, 11]) for ring in orders) == {45: 8, "refused 14": 16}
+    assert answer(8, cell, cell) == 28
+    assert answer(8, cell, [0, 3, 2, 1, 4, 7, 6, 5]) == 28
+    exchanged = [0, 1, 3, 2, 4, 5, 6, 7]
+    assert answer(8, cell, exchanged) == "refused 14" and answer_01(8, cell, exchanged) == 34
+    assert answer(13, cell, [1, 2, 6, 12, 8, 9, 10, 11]) == 49
+
+    # what meets
+    assert told(refine, 12, cell + twisted, 127) == "refused 8"
+    assert answer(12, cell, twisted, [0, 1, 2, 3, 4, 5, 6, 12]) == "refused 9"
+    assert answer(12, cell, twisted, [0, 0, 2, 3, 4, 5, 6, 7]) == "refused 10"
+    assert answer(11, cell, twisted) == "refused 9"
+
+    # the reader and the writer take a twisted mesh as any other
+    number, (length, data) = hxm_write([0] * 36, cell + twisted, 365)
+    assert (number, length) == (0, 365)
+    assert hxm_read(data, 36, 16) == (0, (12, 2, (0,) * 36, (*cell, *twisted)))
