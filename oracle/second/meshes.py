@@ -13,6 +13,14 @@ TOP = 0xFFFFFFFF  # the largest number of 32 bits
 MOST_NUMBERS = 8 * MOST_CELLS
 WHOLE_CELL = list(range(8))
 TWO_CELLS = WHOLE_CELL + [1, 8, 9, 2, 5, 11, 10, 6]  # document 01's example, n = 12
+TWISTED_CELLS = WHOLE_CELL + [1, 8, 9, 5, 6, 11, 10, 2]  # the same nodes, f4 runs 5, 1, 6, 2
+
+# The tags of cases that have to be answered with a certain number, which the second program looks at.
+PROMISED = {"untwisted": 0, "no face": 0, "twisted file": 0, "twisted": 14} | {f"twisted, but {number}": number for number in (7, 8, 9, 10)}
+
+# The orders of four nodes that are one ring, by where it starts and which way it turns; and those that are another.
+ONE_RING = [tuple((start + way * i) % 4 for i in range(4)) for start in range(4) for way in (1, -1)]
+OTHER_RING = [order for order in itertools.permutations(range(4)) if order not in ONE_RING]
 
 
 def turns():
@@ -33,6 +41,13 @@ def turned(cell, turn):
 
 
 # ---- meshes ----
+
+
+def glued(old, face, order, rest, at):
+    """A cell that has the nodes of a face of `old`, in this order, as its face `at`, and the rest in its other places."""
+    cell = dict(zip(FACE2NODE[at], (old[FACE2NODE[face][k]] for k in order)))
+    others = iter(rest)
+    return [cell[k] if k in cell else next(others) for k in range(8)]
 
 
 def grid(a, b, c):
@@ -166,14 +181,10 @@ def boundary_refine():
             numbers[k] = numbers[other + (k + 1) % 8]
             for room in (127, 128):
                 yield REFINE, "order", (12, numbers, room)
-    # one edge or face shared, in each of 48 turns of the second cell, and every ring of a shared face
+    # one edge or face shared, in each of 48 turns of the second cell
     for turn in TURNS:
         yield REFINE, "turn", (12, WHOLE_CELL + turned(TWO_CELLS[8:], turn), 128)
         yield REFINE, "turn", (14, WHOLE_CELL + turned([1, 8, 9, 0, 10, 11, 12, 13], turn), 130)
-    for ring in itertools.permutations((1, 2, 6, 5)):
-        yield REFINE, "ring", (12, WHOLE_CELL + [*ring, 8, 9, 10, 11], 128)
-    for three in itertools.combinations((1, 2, 6, 5), 3):  # three nodes of a face are no face
-        yield REFINE, "ring", (13, WHOLE_CELL + [*three, 12, 8, 9, 10, 11], 128)
     # grids up to the limits
     for shape in ((2, 2, 2), (3, 2, 1), (4, 4, 8), (128, 1, 1), (2, 64, 1), (7, 6, 3), (5, 5, 5)):
         n, cells = grid(*shape)
@@ -181,6 +192,129 @@ def boundary_refine():
         for room in (8 * len(numbers) - 1, 8 * len(numbers), 8 * len(numbers) + 3):
             yield REFINE, "grid", (n, numbers, room)
             yield REFINE, "grid", (1024, numbers, room)
+    yield from boundary_rings()
+
+
+# ---- twisted faces ----
+
+
+def mesh(tag, n, cells, more=0):
+    """A case with room for the answer, and more or less."""
+    numbers = [v for cell in cells for v in cell]
+    return REFINE, tag, (n, numbers, 8 * len(numbers) + more)
+
+
+def boundary_rings():
+    yield from example_rings()
+    yield from glued_pairs()
+    yield from full_meshes()
+    yield from several_pairs()
+    yield from twists_and_faults()
+    yield from same_eight_nodes()
+    yield from no_common_face()
+
+
+def example_rings():
+    """The examples of request 2/12."""
+    twisted = [TWISTED_CELLS[:8], TWISTED_CELLS[8:]]
+    yield mesh("example", 12, twisted)
+    yield mesh("example", 12, twisted, more=-1)
+    yield mesh("example", 11, twisted)
+    for third in ([0, 1, 2, 3, 4, 5, 6, 12], [0, 0, 2, 3, 4, 5, 6, 7]):
+        yield mesh("example", 12, [*twisted, third])
+    for second in (WHOLE_CELL, [0, 3, 2, 1, 4, 7, 6, 5], [0, 1, 3, 2, 4, 5, 6, 7]):
+        yield mesh("example", 8, [WHOLE_CELL, second])
+    yield mesh("example", 13, [WHOLE_CELL, [1, 2, 6, 12, 8, 9, 10, 11]])
+
+
+def twisted_pairs():
+    """The number lists of two cells that meet in another ring, at each face of the first."""
+    for face, order in itertools.product(range(6), OTHER_RING):
+        yield WHOLE_CELL + glued(WHOLE_CELL, face, order, range(8, 12), 5 - face)
+
+
+def glued_pairs():
+    """Two cells that meet at each face of either, in each of 24 orders, either cell first."""
+    for face, at in itertools.product(range(6), range(6)):
+        for order in ONE_RING + OTHER_RING:
+            pair = [WHOLE_CELL, glued(WHOLE_CELL, face, order, range(8, 12), at)]
+            tag = "untwisted" if order in ONE_RING else "twisted"
+            yield mesh(tag, 12, pair)
+            yield mesh(tag, 12, pair[::-1])
+
+
+def full_meshes():
+    """128 cells, apart or in a block, in which one meets an earlier one at each face of it."""
+    apart = [list(range(8 * i, 8 * i + 8)) for i in range(MOST_CELLS)]
+    for cells, (early, late) in itertools.product((apart, grid(4, 4, 8)[1]), ((0, 127), (126, 127), (0, 1), (63, 64))):
+        for face in range(6):
+            for order in (ONE_RING[face], OTHER_RING[face], OTHER_RING[-1 - face]):
+                full = list(cells)
+                full[late] = glued(cells[early], face, order, range(MOST_NODES - 4, MOST_NODES), 5 - face)
+                if cells is apart and late != 127:  # the last nodes are the last cell's
+                    full[127] = cells[late][:4] + cells[127][:4]
+                yield mesh("untwisted" if order in ONE_RING else "twisted", MOST_NODES, full)
+        yield mesh("twisted, but 8", MOST_NODES, full, more=-1)
+
+
+def several_pairs():
+    """Two and three twisted pairs: in a row, at one cell, at one face in its three rings, and apart; the cells in every order, or begun anywhere."""
+    for k, one in enumerate(OTHER_RING):
+        two = OTHER_RING[k - 5]
+        middle = glued(WHOLE_CELL, k % 6, one, range(8, 12), 4)
+        row = [WHOLE_CELL, middle, glued(middle, 2, two, range(12, 16), k % 6)]
+        star = [WHOLE_CELL, middle, glued(WHOLE_CELL, (k + 1) % 6, two, range(12, 16), 0)]
+        for cells in (*itertools.permutations(row), *itertools.permutations(star)):
+            yield mesh("twisted", 16, cells)
+    for face in range(6):
+        orders = (0, 1, 2, 3), (0, 2, 1, 3), (0, 1, 3, 2)
+        rings = [glued(WHOLE_CELL, face, order, range(8 + 4 * i, 12 + 4 * i), face) for i, order in enumerate(orders)]
+        for cells in itertools.permutations(rings):
+            yield mesh("twisted", 20, cells)
+        pairs = [[v + 12 * i for v in cell] for i in range(3) for cell in (WHOLE_CELL, glued(WHOLE_CELL, face, OTHER_RING[face], range(8, 12), 2))]
+        for start in range(6):
+            yield mesh("twisted", 36, pairs[start:] + pairs[:start])
+            yield mesh("twisted", 36, (pairs[start:] + pairs[:start])[:4])
+
+
+def twists_and_faults():
+    """A twisted pair with 9 and 10 before, between and behind its cells, and with every set of 7 and 8."""
+    first, second = TWISTED_CELLS[:8], TWISTED_CELLS[8:]
+    beyond, twice, both = [0, 1, 2, 3, 4, 5, 6, 12], [0, 0, 2, 3, 4, 5, 6, 7], [0, 0, 2, 3, 4, 5, 6, 12]
+    meshes = [([first, second], "twisted")]
+    for bad, number in (([beyond], 9), ([twice], 10), ([beyond, twice], 9), ([twice, beyond], 10), ([both], 9)):
+        for cells in ([*bad, first, second], [first, *bad, second], [first, second, *bad]):
+            meshes.append((cells, f"twisted, but {number}"))
+    for (cells, tag), n, over, parted, short in itertools.product(meshes, (12, 1025), (0, 1), (0, 1), (0, 1)):
+        if parted or short:
+            tag = "twisted, but 8"
+        if n > MOST_NODES or over:
+            tag = "twisted, but 7"
+        yield mesh(tag, n, [*cells, *[WHOLE_CELL] * (over * (129 - len(cells))), *[[0]] * parted], more=-short)
+
+
+def same_eight_nodes():
+    """A cell and its 48 turns; and the cell with two nodes exchanged, the ends of an edge or of a diagonal."""
+    for turn in TURNS:
+        yield mesh("untwisted", 8, [WHOLE_CELL, turn])
+        yield mesh("untwisted", 8, [turn, WHOLE_CELL])
+    for a, b in itertools.combinations(range(8), 2):
+        steps = sum(HEX_SIGN[a][axis] != HEX_SIGN[b][axis] for axis in range(3))
+        exchanged = [{a: b, b: a}.get(k, k) for k in range(8)]
+        for pair in ([WHOLE_CELL, exchanged], [exchanged, WHOLE_CELL]):
+            yield mesh("twisted" if steps == 1 else "untwisted", 8, pair)
+
+
+def no_common_face():
+    """Three nodes of a face in a face of another cell; and all four of them, in places that are no face."""
+    for face, at, left_out in itertools.product(range(6), range(6), range(4)):
+        other = glued(WHOLE_CELL, face, OTHER_RING[(face + at + 4 * left_out) % 16], range(8, 12), at)
+        yield mesh("no face", 13, [WHOLE_CELL, [12 if v == WHOLE_CELL[FACE2NODE[face][left_out]] else v for v in other]])
+    faces = [set(face) for face in FACE2NODE]
+    for k, places in enumerate(places for places in itertools.combinations(range(8), 4) if set(places) not in faces):
+        nodes = dict(zip(places, FACE2NODE[k % 6]))
+        others = iter(range(8, 12))
+        yield mesh("no face", 12, [WHOLE_CELL, [nodes[k] if k in nodes else next(others) for k in range(8)]])
 
 
 def random_refine(rng):
@@ -282,6 +416,8 @@ def boundary_files():
     for data, n, c in good:
         for lent in rooms(n, c):
             yield HXM_READ, "lent", (data, *lent)
+    for numbers in twisted_pairs():
+        yield HXM_READ, "twisted file", (written(some_patterns(36), numbers), 36, 16)
     # every byte of a header with every value; every byte with some
     for at, flip in itertools.product(range(13), range(1, 256)):
         yield HXM_READ, "header", (damaged(two, at, flip), 36, 16)
@@ -450,6 +586,8 @@ def faulty(n):
 
 def boundary_writes():
     yield from example_writes()
+    for numbers in twisted_pairs():
+        yield HXM_WRITE, "twisted file", (some_patterns(36), numbers, 365)
     # lists of all lengths near the limits, whole or not
     spread = [(8 * i + k) % 1023 for i in range(MOST_CELLS + 1) for k in TURNS[i % 48]]
     for words, count in itertools.product(WORD_COUNTS, NUMBER_COUNTS):

@@ -11,9 +11,11 @@ import argparse
 import itertools
 import random
 import sys
+from collections import Counter
 
 sys.dont_write_bytecode = True
 
+import answers
 import cells
 import examples
 import meshes
@@ -53,14 +55,40 @@ def cases(name, count, seed):
     yield from itertools.islice(RANDOM[name](rng), max(count - len(boundary), 0))
 
 
+def answered(case, held):
+    """The answer. Where the tag promises a number, it has to be that one; what is held of it is counted."""
+    function, tag, arguments = case
+    answer = records.answer(function, arguments)
+    if tag in meshes.PROMISED:
+        if answer[0] != meshes.PROMISED[tag]:
+            raise AssertionError(f"a case that is {tag} answers {answer[0]}: {arguments}")
+        held["promised"] += 1
+    if function == records.REFINE:
+        held[beside_document_01(arguments, answer[:2])] += 1
+    return answer
+
+
+def beside_document_01(arguments, answer):
+    """What document 01's rule answered is answered still, or is 14 where it numbered the mesh: which of these."""
+    number, _ = before = answers.refine_01(*arguments)
+    if answer != before and (answer[0] != 14 or number != 0):
+        raise AssertionError(f"document 01's rule answers {number} otherwise, not {answer[0]}: {arguments}")
+    return "twisted" if answer != before else "numbered" if number == 0 else "refused"
+
+
 def stream(names, count, seed, out):
     out.write(records.STREAM_MARK)
+    held = Counter()
     written = 0
     for name in names:
-        for function, _, arguments in cases(name, count, seed):
-            out.write(records.stream_record(function, arguments, records.answer(function, arguments)))
+        for case in cases(name, count, seed):
+            function, _, arguments = case
+            out.write(records.stream_record(function, arguments, answered(case, held)))
             written += 1
     out.write(records.stream_end(written))
+    if "refine" in names:
+        said = f"{held['numbered']} numbered and {held['refused']} refused as by document 01's rule, {held['twisted']} twisted"
+        print(f"second.py: meshes to refine: {said}; {held['promised']} cases as their tags promise", file=sys.stderr)
 
 
 def sample(names, path):
@@ -74,11 +102,12 @@ def sample_of(name):
     """The examples, and of each tag and number a few cases, spread over all that there are."""
     rng = random.Random(f"{SAMPLE_SEED} {name}")
     kinds = {}
-    for position, (function, tag, arguments) in enumerate(cases(name, SAMPLE_FROM[name], SAMPLE_SEED)):
-        answered = records.answer(function, arguments)
-        words = records.sample_words(function, arguments, answered)
+    for position, case in enumerate(cases(name, SAMPLE_FROM[name], SAMPLE_SEED)):
+        function, tag, arguments = case
+        answer = answered(case, Counter())
+        words = records.sample_words(function, arguments, answer)
         if words is not None:
-            number = answered[0]
+            number = answer[0]
             kinds.setdefault((tag, number), []).append((position, records.sample_record(function, number, words)))
     taken = []
     for (tag, _), found in kinds.items():
