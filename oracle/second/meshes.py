@@ -115,6 +115,37 @@ def random_apart(rng, most):
     return n, [names[8 * i : 8 * i + 8] for i in range(count)]
 
 
+def random_glued(rng, most, torn):
+    """Each cell is glued to a face of an earlier one; at some it has another ring, where the mesh is to be torn."""
+    count = rng.randint(2, max(most, 2))
+    spoiled_at = rng.sample(range(1, count), min(rng.choice((1, 1, 1, 2, 3)), count - 1)) if torn else []
+    cells = [list(range(8))]
+    for i in range(1, count):
+        order = rng.choice(OTHER_RING if i in spoiled_at else ONE_RING)
+        cells.append(glued(rng.choice(cells), rng.randrange(6), order, range(4 * i + 4, 4 * i + 8), rng.randrange(6)))
+    n = rng.choice((4 * count + 4, rng.randint(4 * count + 4, MOST_NODES)))
+    names = rng.sample(range(n), n)
+    rng.shuffle(cells)
+    return n, [[names[v] for v in cell] for cell in cells]
+
+
+def random_torn_grid(rng, most):
+    """A grid in which one cell exchanges two neighbours in a ring that it shares."""
+    cells = []
+    while len(cells) < 2:
+        n, cells = random_grid(rng, max(most, 2))
+    cell = cells[rng.randrange(len(cells))]
+    shared = [face for face in FACE2NODE if sum({cell[k] for k in face} <= set(other) for other in cells) > 1]
+    face, at = rng.choice(shared), rng.randrange(4)
+    a, b = face[at - 1], face[at]
+    cell[a], cell[b] = cell[b], cell[a]
+    return n, cells
+
+
+def random_torn(rng, most):
+    return random_torn_grid(rng, most) if rng.random() < 0.5 else random_glued(rng, most, torn=True)
+
+
 def random_mesh(rng, most):
     return rng.choice((random_grid, random_few, random_chain, random_chain, random_apart))(rng, most)
 
@@ -319,12 +350,20 @@ def no_common_face():
 
 def random_refine(rng):
     while True:
-        n, cells = random_mesh(rng, random_most(rng))
+        most = random_most(rng)
+        draw = rng.random()
+        if draw < 0.5:
+            tag, (n, cells) = "good", random_mesh(rng, most)
+        elif draw < 0.63:
+            tag, (n, cells) = "untwisted", random_glued(rng, most, torn=False)
+        elif draw < 0.77:
+            tag, (n, cells) = "twisted", random_torn(rng, most)
+        else:
+            tag, (n, cells) = None, rng.choice((random_mesh, random_torn))(rng, most)
         numbers = [v for cell in cells for v in cell]
         room = 8 * len(numbers)
-        draw = rng.random()
-        if draw < 0.62:
-            yield REFINE, "good", (n, numbers, room + rng.choice((0, 0, 1, 8, 64, 100)))
+        if tag is not None:
+            yield REFINE, tag, (n, numbers, room + rng.choice((0, 0, 1, 8, 64, 100)))
             continue
         faults = rng.choice(((0,), (0,), (0,), (1,), (2,), (3,), (4,), (0, 1), (0, 2), (1, 2), (2, 3), (0, 1, 2, 3, 4)))
         if 0 in faults:
