@@ -29,6 +29,7 @@ def hold():
     hold_scope()
     hold_writing()
     hold_rings()
+    hold_twisted()
 
 
 def hold_scope():
@@ -99,37 +100,44 @@ def hold_writing():
 
 
 def hold_rings():
-    """Document 02, 2/12."""
+    """Document 02, 2/12: when two faces are one."""
     one, other = (1, 2, 6, 5), (1, 6, 2, 5)
     assert by_sides(one) == by_sides((6, 2, 1, 5))
     assert by_sides(one) != by_sides(other) and by_nodes(one) == by_nodes(other)
     assert len(by_sides(one) & by_sides(other)) == 2  # "two of the edges differ"
-    orders = list(itertools.permutations(one))
-    assert sorted(Counter(map(by_sides, orders)).values()) == [8, 8, 8]
+    assert sorted(Counter(map(by_sides, itertools.permutations(one))).values()) == [8, 8, 8]
 
-    # the next free number, or the refusal; and by document 01's rule
+
+def hold_twisted():
+    """Document 02, 2/12: what is answered to two cells that meet, and what document 01's rule answered."""
+
     def told(call, n, cells, room):
-        number, outputs = call(n, cells, room)
-        return outputs[0] if number == 0 else f"refused {number}"
+        """The next free number, or minus the refusal's."""
+        number, outputs = call(n, sum(cells, []), room)
+        return outputs[0] if number == 0 else -number
 
+    answer = lambda n, *cells: told(refine, n, cells, 64 * len(cells))
+    answer_01 = lambda n, *cells: told(refine_01, n, cells, 64 * len(cells))
     cell = list(range(8))
-    answer = lambda n, *cells: told(refine, n, sum(cells, []), 64 * len(cells))
-    answer_01 = lambda n, *cells: told(refine_01, n, sum(cells, []), 64 * len(cells))
     twisted = [1, 8, 9, 5, 6, 11, 10, 2]  # its f4 runs 5, 1, 6, 2
     assert answer(12, cell, [1, 8, 9, 2, 5, 11, 10, 6]) == 45
-    assert answer(12, cell, twisted) == "refused 14" and answer_01(12, cell, twisted) == 47
-    assert Counter(answer(12, cell, [*ring, 8, 9, 10, 11]) for ring in orders) == {45: 8, "refused 14": 16}
+    assert answer(12, cell, twisted) == -14 and answer_01(12, cell, twisted) == 47
+    assert Counter(answer(12, cell, [*ring, 8, 9, 10, 11]) for ring in itertools.permutations((1, 2, 6, 5))) == {45: 8, -14: 16}
     assert answer(8, cell, cell) == 28
     assert answer(8, cell, [0, 3, 2, 1, 4, 7, 6, 5]) == 28
     exchanged = [0, 1, 3, 2, 4, 5, 6, 7]
-    assert answer(8, cell, exchanged) == "refused 14" and answer_01(8, cell, exchanged) == 34
+    assert answer(8, cell, exchanged) == -14 and answer_01(8, cell, exchanged) == 34
     assert answer(13, cell, [1, 2, 6, 12, 8, 9, 10, 11]) == 49
 
+    # each two nodes exchanged: the ends of 12 edges, and of 16 diagonals
+    exchanges = [[{a: b, b: a}.get(k, k) for k in range(8)] for a, b in itertools.combinations(range(8), 2)]
+    assert Counter(answer(8, cell, second) > 0 for second in exchanges) == {False: 12, True: 16}
+
     # what meets
-    assert told(refine, 12, cell + twisted, 127) == "refused 8"
-    assert answer(12, cell, twisted, [0, 1, 2, 3, 4, 5, 6, 12]) == "refused 9"
-    assert answer(12, cell, twisted, [0, 0, 2, 3, 4, 5, 6, 7]) == "refused 10"
-    assert answer(11, cell, twisted) == "refused 9"
+    assert told(refine, 12, (cell, twisted), 127) == -8
+    assert answer(12, cell, twisted, [0, 1, 2, 3, 4, 5, 6, 12]) == -9
+    assert answer(12, cell, twisted, [0, 0, 2, 3, 4, 5, 6, 7]) == -10
+    assert answer(11, cell, twisted) == -9
 
     # the reader and the writer take a twisted mesh as any other
     number, (length, data) = hxm_write([0] * 36, cell + twisted, 365)

@@ -16,7 +16,9 @@ TWO_CELLS = WHOLE_CELL + [1, 8, 9, 2, 5, 11, 10, 6]  # document 01's example, n 
 TWISTED_CELLS = WHOLE_CELL + [1, 8, 9, 5, 6, 11, 10, 2]  # the same nodes, f4 runs 5, 1, 6, 2
 
 # The tags of cases that have to be answered with a certain number, which the second program looks at.
-PROMISED = {"untwisted": 0, "no face": 0, "twisted file": 0, "twisted": 14} | {f"twisted, but {number}": number for number in (7, 8, 9, 10)}
+PROMISED = dict.fromkeys(("turn", "untwisted", "glued", "no face", "twisted file"), 0)
+PROMISED |= dict.fromkeys(("twisted", "twisted afar", "twisted often", "exchanged", "torn"), 14)
+PROMISED |= {f"twisted, but {number}": number for number in (7, 8, 9, 10)}
 
 # The orders of four nodes that are one ring, by where it starts and which way it turns; and those that are another.
 ONE_RING = [tuple((start + way * i) % 4 for i in range(4)) for start in range(4) for way in (1, -1)]
@@ -43,11 +45,15 @@ def turned(cell, turn):
 # ---- meshes ----
 
 
-def glued(old, face, order, rest, at):
-    """A cell that has the nodes of a face of `old`, in this order, as its face `at`, and the rest in its other places."""
-    cell = dict(zip(FACE2NODE[at], (old[FACE2NODE[face][k]] for k in order)))
-    others = iter(rest)
+def placed(places, nodes, rest):
+    """A cell with these nodes in these places, and the rest in the others."""
+    cell, others = dict(zip(places, nodes)), iter(rest)
     return [cell[k] if k in cell else next(others) for k in range(8)]
+
+
+def glued(old, face, order, rest, at):
+    """A cell that has the nodes of a face of `old`, in this order, as its face `at`."""
+    return placed(FACE2NODE[at], [old[FACE2NODE[face][k]] for k in order], rest)
 
 
 def grid(a, b, c):
@@ -238,6 +244,7 @@ def mesh(tag, n, cells, more=0):
 def boundary_rings():
     yield from example_rings()
     yield from glued_pairs()
+    yield from far_pairs()
     yield from full_meshes()
     yield from several_pairs()
     yield from twists_and_faults()
@@ -274,6 +281,14 @@ def glued_pairs():
             yield mesh(tag, 12, pair[::-1])
 
 
+def far_pairs():
+    """A twisted pair, and between its cells one to seven that share nothing."""
+    for face, between in itertools.product(range(6), range(1, 8)):
+        others = [list(range(12 + 8 * i, 20 + 8 * i)) for i in range(between)]
+        last = glued(WHOLE_CELL, face, OTHER_RING[face + between], range(8, 12), 5 - face)
+        yield mesh("twisted afar", 12 + 8 * between, [WHOLE_CELL, *others, last])
+
+
 def full_meshes():
     """128 cells, apart or in a block, in which one meets an earlier one at each face of it."""
     apart = [list(range(8 * i, 8 * i + 8)) for i in range(MOST_CELLS)]
@@ -289,23 +304,24 @@ def full_meshes():
 
 
 def several_pairs():
-    """Two and three twisted pairs: in a row, at one cell, at one face in its three rings, and apart; the cells in every order, or begun anywhere."""
+    """Two and three twisted pairs: in a row, at two faces of a cell, at one face in its three rings, and apart."""
+    meshes = []
     for k, one in enumerate(OTHER_RING):
         two = OTHER_RING[k - 5]
         middle = glued(WHOLE_CELL, k % 6, one, range(8, 12), 4)
-        row = [WHOLE_CELL, middle, glued(middle, 2, two, range(12, 16), k % 6)]
-        star = [WHOLE_CELL, middle, glued(WHOLE_CELL, (k + 1) % 6, two, range(12, 16), 0)]
-        for cells in (*itertools.permutations(row), *itertools.permutations(star)):
-            yield mesh("twisted", 16, cells)
+        meshes.append([WHOLE_CELL, middle, glued(middle, 2, two, range(12, 16), k % 6)])
+        meshes.append([WHOLE_CELL, middle, glued(WHOLE_CELL, (k + 1) % 6, two, range(12, 16), 0)])
     for face in range(6):
-        orders = (0, 1, 2, 3), (0, 2, 1, 3), (0, 1, 3, 2)
-        rings = [glued(WHOLE_CELL, face, order, range(8 + 4 * i, 12 + 4 * i), face) for i, order in enumerate(orders)]
-        for cells in itertools.permutations(rings):
-            yield mesh("twisted", 20, cells)
-        pairs = [[v + 12 * i for v in cell] for i in range(3) for cell in (WHOLE_CELL, glued(WHOLE_CELL, face, OTHER_RING[face], range(8, 12), 2))]
+        rings = enumerate(((0, 1, 2, 3), (0, 2, 1, 3), (0, 1, 3, 2)))
+        meshes.append([glued(WHOLE_CELL, face, order, range(8 + 4 * i, 12 + 4 * i), face) for i, order in rings])
+        pair = WHOLE_CELL, glued(WHOLE_CELL, face, OTHER_RING[face], range(8, 12), 2)
+        three = [[v + 12 * i for v in cell] for i in range(3) for cell in pair]
+        meshes.append(three[:4])
         for start in range(6):
-            yield mesh("twisted", 36, pairs[start:] + pairs[:start])
-            yield mesh("twisted", 36, (pairs[start:] + pairs[:start])[:4])
+            yield mesh("twisted often", 36, three[start:] + three[:start])
+    for cells in meshes:
+        for ordered in itertools.permutations(cells):
+            yield mesh("twisted often", 24, ordered)
 
 
 def twists_and_faults():
@@ -333,19 +349,18 @@ def same_eight_nodes():
         steps = sum(HEX_SIGN[a][axis] != HEX_SIGN[b][axis] for axis in range(3))
         exchanged = [{a: b, b: a}.get(k, k) for k in range(8)]
         for pair in ([WHOLE_CELL, exchanged], [exchanged, WHOLE_CELL]):
-            yield mesh("twisted" if steps == 1 else "untwisted", 8, pair)
+            yield mesh("exchanged" if steps == 1 else "untwisted", 8, pair)
 
 
 def no_common_face():
     """Three nodes of a face in a face of another cell; and all four of them, in places that are no face."""
     for face, at, left_out in itertools.product(range(6), range(6), range(4)):
         other = glued(WHOLE_CELL, face, OTHER_RING[(face + at + 4 * left_out) % 16], range(8, 12), at)
-        yield mesh("no face", 13, [WHOLE_CELL, [12 if v == WHOLE_CELL[FACE2NODE[face][left_out]] else v for v in other]])
+        yield mesh("no face", 13, [WHOLE_CELL, [12 if v == FACE2NODE[face][left_out] else v for v in other]])
     faces = [set(face) for face in FACE2NODE]
-    for k, places in enumerate(places for places in itertools.combinations(range(8), 4) if set(places) not in faces):
-        nodes = dict(zip(places, FACE2NODE[k % 6]))
-        others = iter(range(8, 12))
-        yield mesh("no face", 12, [WHOLE_CELL, [nodes[k] if k in nodes else next(others) for k in range(8)]])
+    for k, places in enumerate(itertools.combinations(range(8), 4)):
+        if set(places) not in faces:
+            yield mesh("no face", 12, [WHOLE_CELL, placed(places, FACE2NODE[k % 6], range(8, 12))])
 
 
 def random_refine(rng):
@@ -355,9 +370,9 @@ def random_refine(rng):
         if draw < 0.5:
             tag, (n, cells) = "good", random_mesh(rng, most)
         elif draw < 0.63:
-            tag, (n, cells) = "untwisted", random_glued(rng, most, torn=False)
+            tag, (n, cells) = "glued", random_glued(rng, most, torn=False)
         elif draw < 0.77:
-            tag, (n, cells) = "twisted", random_torn(rng, most)
+            tag, (n, cells) = "torn", random_torn(rng, most)
         else:
             tag, (n, cells) = None, rng.choice((random_mesh, random_torn))(rng, most)
         numbers = [v for cell in cells for v in cell]

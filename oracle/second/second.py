@@ -69,11 +69,13 @@ def answered(case, held):
 
 
 def beside_document_01(arguments, answer):
-    """What document 01's rule answered is answered still, or is 14 where it numbered the mesh: which of these."""
-    number, _ = before = answers.refine_01(*arguments)
-    if answer != before and (answer[0] != 14 or number != 0):
-        raise AssertionError(f"document 01's rule answers {number} otherwise, not {answer[0]}: {arguments}")
-    return "twisted" if answer != before else "numbered" if number == 0 else "refused"
+    """Whether document 01's rule numbered the mesh so, or refused it so; or numbered it, and now it is twisted."""
+    before = answers.refine_01(*arguments)
+    if answer == before:
+        return "numbered" if answer[0] == 0 else "refused"
+    if answer[0] == 14 and before[0] == 0:
+        return "twisted"
+    raise AssertionError(f"answers {answer[0]}, and by document 01's rule {before[0]}, not the same: {arguments}")
 
 
 def stream(names, count, seed, out):
