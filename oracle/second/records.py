@@ -23,6 +23,8 @@ STREAM_MARK = b"ISN2ND1\n"
 END = 0
 
 MOST_INPUT_WORDS, MOST_OUTPUT_WORDS = 400, 600
+# A mesh is stored where the replay has room for it: its numbers up to the last that is not zero, their length, and the output's.
+MOST_MESH_NUMBERS, MOST_MESH_LENGTH, MOST_MESH_ROOM = 252, 1040, 8256
 # A writing is stored where the replay has room for it, and shows each byte of its file and one behind.
 MOST_WRITE_WORDS, MOST_WRITE_ROOM, MOST_WRITTEN = 255, 28800, 400
 NAN_WORD = 0x7FF8000000000000
@@ -144,6 +146,8 @@ def sample_words(function, arguments, answered):
         n, numbers, room = arguments
         ins = with_list([n], [[v] for v in numbers], [room], number)
         outs = [outputs[0], *outputs[1]] if number == 0 else []
+        if len(without_zeros(numbers)) > MOST_MESH_NUMBERS or len(numbers) > MOST_MESH_LENGTH or room > MOST_MESH_ROOM:
+            return None
     elif function == DESCENDANT:
         path, corner = arguments
         ins = [len(path), *path, corner]

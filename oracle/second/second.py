@@ -43,7 +43,7 @@ RANDOM = {
 SAMPLE_SEED = "sample 1"
 # How many cases of a function a sample takes for each tag and number, and in all; how many are looked through.
 SAMPLE_EACH = {"check": 6, "locate_checked": 4, "check_proposals": 8, "refine": 8, "descendant": 6, "hxm_read": 4, "hxm_write": 3}
-SAMPLE_MOST = {"check": 215, "locate_checked": 195, "check_proposals": 45, "refine": 80, "descendant": 35, "hxm_read": 80, "hxm_write": 80}
+SAMPLE_MOST = {"check": 215, "locate_checked": 195, "check_proposals": 45, "refine": 120, "descendant": 35, "hxm_read": 80, "hxm_write": 80}
 SAMPLE_FROM = {"check": 9000, "locate_checked": 6000, "check_proposals": 2000, "refine": 8000, "descendant": 12000, "hxm_read": 20000, "hxm_write": 8000}
 
 
