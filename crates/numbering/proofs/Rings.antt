@@ -302,7 +302,7 @@ rings-by-sides =
           (record { back = back; start = s; below = h; meets = λ j less. tabulate-at 4 (λ (j : ℕ). getD ps (turned back s j % 4) 0) 0 j less }));
       differ = λ ps hp.
           let other : (is ks : List ℕ) → T (all 4 (λ (i : ℕ). ltb (getD is i 0) 4)) → T (all 4 (λ (i : ℕ). ltb (getD ks i 0) 4)) →
-              sameRing (order ps is) (order ps ks) ≡ sameRing is ks =
+          sameRing (order ps is) (order ps ks) ≡ sameRing is ks =
           λ is ks hi hk. ring-alike (order ps is) (order ps ks) is ks (orders-alike ps hp is ks (three-small is hi) (three-small ks hk)) in
           none-alike (sameRing (order ps ofFourth) (order ps inOrder)) (sameRing (order ps ofSecond) (order ps inOrder))
           (sameRing (order ps ofSecond) (order ps ofFourth)) (other ofFourth inOrder tt tt) (other ofSecond inOrder tt tt) (other ofSecond ofFourth tt tt);

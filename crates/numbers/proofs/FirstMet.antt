@@ -182,8 +182,8 @@ module _ {A : Type 0} (pair : A → A → Bool) (never-itself : (x : A) → pair
       let fresh : among pair xs x ≡ false = is-false (among pair xs x) (λ t. never (sym (rw t at (left-true (not (among pair xs x)) (apart pair xs) h)))) in (
         rw (never-itself x) fresh,
         every-both (λ (y : A). pair y x ≡ false) (λ (y : A). among pair xs y ≡ false) (λ (y : A). among pair (x ∷ xs) y ≡ false)
-        (λ y one others. rw (either-way x y ∙ one) others)
-        xs (with-none xs x fresh) (apart-none xs (right-true (not (among pair xs x)) (apart pair xs) h)),
+            (λ y one others. rw (either-way x y ∙ one) others)
+            xs (with-none xs x fresh) (apart-none xs (right-true (not (among pair xs x)) (apart pair xs) h)),
       )
 
   pub none-apart : (xs : List A) → Every (λ (x : A). among pair xs x ≡ false) xs → apart pair xs ≡ true

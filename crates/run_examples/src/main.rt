@@ -16,7 +16,30 @@ const TWO_CELLS: [u32; 16] = [0, 1, 2, 3, 4, 5, 6, 7, 1, 8, 9, 2, 5, 11, 10, 6];
 
 // The second of these cells has face 1, 2, 6, 5 of the first one too, but goes round it 5, 1, 6, 2. Behind them stands a cell that is good.
 const TWISTED: [u32; 24] = [
-    0, 1, 2, 3, 4, 5, 6, 7, 1, 8, 9, 5, 6, 11, 10, 2, 0, 1, 2, 3, 4, 5, 6, 7,
+    0,
+    1,
+    2,
+    3,
+    4,
+    5,
+    6,
+    7,
+    1,
+    8,
+    9,
+    5,
+    6,
+    11,
+    10,
+    2,
+    0,
+    1,
+    2,
+    3,
+    4,
+    5,
+    6,
+    7,
 ];
 
 fn say(number: u32) {
@@ -235,19 +258,15 @@ fn twisted() {
     with_third(b"twisted, and a third cell with node 0 twice:", 0, 7);
 }
 
-// The cell 0..7 and another one.
-fn besides(label: &[u8], n: u32, cell: [u32; 8]) {
-    let cells = [
-        0, 1, 2, 3, 4, 5, 6, 7, cell[0], cell[1], cell[2], cell[3], cell[4], cell[5], cell[6], cell[7],
-    ];
-    refine(label, n, &cells);
-}
-
 fn neighbours() {
-    besides(b"a cell twice:", 8, [0, 1, 2, 3, 4, 5, 6, 7]);
-    besides(b"a cell and its mirror:", 8, [0, 3, 2, 1, 4, 7, 6, 5]);
-    besides(b"a cell with nodes 2 and 3 exchanged:", 8, [0, 1, 3, 2, 4, 5, 6, 7]);
-    besides(b"three nodes of a face in common:", 13, [1, 2, 6, 12, 8, 9, 10, 11]);
+    let twice = [0, 1, 2, 3, 4, 5, 6, 7, 0, 1, 2, 3, 4, 5, 6, 7];
+    let mirrored = [0, 1, 2, 3, 4, 5, 6, 7, 0, 3, 2, 1, 4, 7, 6, 5];
+    let exchanged = [0, 1, 2, 3, 4, 5, 6, 7, 0, 1, 3, 2, 4, 5, 6, 7];
+    let three = [0, 1, 2, 3, 4, 5, 6, 7, 1, 2, 6, 12, 8, 9, 10, 11];
+    refine(b"a cell twice:", 8, &twice);
+    refine(b"a cell and its mirror:", 8, &mirrored);
+    refine(b"a cell, and with nodes 2 and 3 exchanged:", 8, &exchanged);
+    refine(b"three nodes of a face in common:", 13, &three);
 }
 
 // What the cell 0..7 and one whose bottom is these four nodes answer.

@@ -33,7 +33,7 @@ loop-again c =
     let j = turn .loop .j in (
       omega arith,
       all-more (λ (i : ℕ). eqb (byNumber (args .first) (args .faces .now) (args .kept .now) i) (getD (args .rings .now) i 0)) j (turn .loop .inv .1)
-      (eq-eqb _ _ (c .if1 .left)),
+          (eq-eqb _ _ (c .if1 .left)),
     )
 
 returns-2 : tie.Need-returns-2 Inv-loop μ-loop
