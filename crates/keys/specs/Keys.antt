@@ -6,7 +6,7 @@ use mathlib.Core.Bool.{true, cond}
 use mathlib.Core.List.{List, [], _∷_, _++_}
 use mathlib.Core.Logic.{_↔_, _⊎_}
 use lib.Dec.{T, eqb, ltb}
-use lib.ListN.{length, getD, drop, replicate}
+use lib.ListN.{length, getD, drop}
 use Rattle.numbers.specs.Rule.{tabulate}
 use Rattle.numbers.specs.FirstMet.{among, apart}
 use Rattle.numbering.specs.Refinement.{sameNodes, sameRing, edgeNodes, faceNodes}
@@ -44,9 +44,9 @@ faceKey cells j = key (faceNodes cells (j / 6) (j % 6))
 abbrev pub faceRing : List ℕ → ℕ → ℕ
 faceRing cells j = opposite (faceNodes cells (j / 6) (j % 6))
 
--- the first m keys, in a list of this many numbers; 0 stands behind them
-abbrev pub keysIn : ℕ → ℕ → (ℕ → ℕ) → List ℕ
-keysIn room m keyAt = tabulate m keyAt ++ drop m (replicate room 0)
+-- a list with the first m keys in it; behind them stands what stood there
+abbrev pub keysIn : List ℕ → ℕ → (ℕ → ℕ) → List ℕ
+keysIn list m keyAt = tabulate m keyAt ++ drop m list
 
 -- different node numbers
 pub record Nodes (ps : List ℕ) : Type 0 where

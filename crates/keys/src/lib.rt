@@ -3,12 +3,18 @@
 ghost use mathlib.Core.Path.{_≡_};
 ghost use mathlib.Core.List.{[], _∷_};
 ghost use Prim.Native.Nat.{_+_, _*_, _<_, _≤_, min, max};
-ghost use lib.ListN.{length, getD};
+ghost use lib.ListN.{length, getD, replicate};
 ghost use Rattle.cell.specs.Edges.{end};
 ghost use Rattle.faults.specs.Faults.{node};
 ghost use Rattle.hex.specs.Cube.{edges, idx2node};
 ghost use Rattle.numbering.specs.Refinement.{cellCount, edgeNodes, faceNodes};
 ghost use Rattle.keys.specs.Keys.{packed, key, opposite, edgeKey, faceKey, faceRing, keysIn};
+
+// The faces of a mesh: the key of each, and the node opposite the smallest, which tells the rings of one key apart.
+pub struct FaceKeys {
+    pub keys: [u64; 768],
+    pub rings: [u32; 768],
+}
 
 fn low(a: u32, b: u32) -> u32
     ensures { λ r. ⌜ r ≡ min a b ⌝ }
@@ -102,7 +108,7 @@ fn counted(cells: &[u32]) -> usize
 
 // The keys of the edges, twelve a cell.
 pub fn edge_keys(cells: &[u32]) -> [u64; 1536]
-    ensures { λ r. ⌜ r ≡ keysIn 1536 (12 * min (cellCount (now (cells .entry))) 128) (edgeKey (now (cells .entry))) ⌝ }
+    ensures { λ r. ⌜ r ≡ keysIn (replicate 1536 0) (12 * min (cellCount (now (cells .entry))) 128) (edgeKey (now (cells .entry))) ⌝ }
 {
     let mut keys = [0u64; 1536];
     let count = 12 * counted(cells);
@@ -112,26 +118,21 @@ pub fn edge_keys(cells: &[u32]) -> [u64; 1536]
     keys
 }
 
-// The keys of the faces, six a cell.
-pub fn face_keys(cells: &[u32]) -> [u64; 768]
-    ensures { λ r. ⌜ r ≡ keysIn 768 (6 * min (cellCount (now (cells .entry))) 128) (faceKey (now (cells .entry))) ⌝ }
+// The keys of the faces, six a cell, and the nodes opposite the smallest ones.
+pub fn face_keys(cells: &[u32]) -> FaceKeys
+    ensures keys { λ r. ⌜ r .keys ≡ keysIn (replicate 768 0) (6 * min (cellCount (now (cells .entry))) 128) (faceKey (now (cells .entry))) ⌝ }
+    ensures rings { λ r. ⌜ r .rings ≡ keysIn (replicate 768 0) (6 * min (cellCount (now (cells .entry))) 128) (faceRing (now (cells .entry))) ⌝ }
 {
     let mut keys = [0u64; 768];
-    let count = 6 * counted(cells);
-    for j in 0..count {
-        keys[j] = face_key(face_nodes(cells, j / 6, j % 6));
-    }
-    keys
-}
-
-// The nodes opposite the smallest ones of the faces, six a cell.
-pub fn face_rings(cells: &[u32]) -> [u32; 768]
-    ensures { λ r. ⌜ r ≡ keysIn 768 (6 * min (cellCount (now (cells .entry))) 128) (faceRing (now (cells .entry))) ⌝ }
-{
     let mut rings = [0u32; 768];
     let count = 6 * counted(cells);
     for j in 0..count {
-        rings[j] = opposite(face_nodes(cells, j / 6, j % 6));
+        let ring = face_nodes(cells, j / 6, j % 6);
+        keys[j] = face_key(ring);
+        rings[j] = opposite(ring);
     }
-    rings
+    FaceKeys {
+        keys: keys,
+        rings: rings,
+    }
 }

@@ -30,8 +30,8 @@ agrees-more numbers p q x value one room e old j below =
     (λ f. let other : j ≡ p → ⊥ = eqb-false j p f in getD-set-other numbers p j x 0 other ∙ old j (omega arith))
 
 -- the keys of a list of at most 1,024 numbers are all there
-pub keys-agree : (keys : List ℕ) (room m n : ℕ) (keyAt : ℕ → ℕ) → m ≡ n → keys ≡ keysIn room m keyAt → Agrees keys n keyAt
-keys-agree keys room m n keyAt all e j below =
+pub keys-agree : (keys list : List ℕ) (m n : ℕ) (keyAt : ℕ → ℕ) → m ≡ n → keys ≡ keysIn list m keyAt → Agrees keys n keyAt
+keys-agree keys list m n keyAt all e j below =
     let within : j < m = omega arith in
     let inside : j < length (tabulate m keyAt) = rw (length-tabulate m keyAt) within in
     ap (λ (l : List ℕ). getD l j 0) e ∙ List·getD-append (tabulate m keyAt) _ 0 j inside ∙ tabulate-at m keyAt 0 j within

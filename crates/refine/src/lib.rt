@@ -10,6 +10,7 @@ ghost use Rattle.numbers.specs.Rule.{all};
 ghost use Rattle.answer.specs.Answer.{answered, refused, left};
 ghost use Rattle.faults.specs.Faults.{firstFault};
 ghost use Rattle.numbering.specs.Refinement.{sameNodes, twisted, cellCount, next, nextBy};
+ghost use Rattle.keys.specs.Keys.{faceKey, faceRing};
 ghost use Rattle.refine.specs.Refine.{refined, childrenIn, told};
 ghost use Rattle.refine.specs.Search.{foundIn, newFrom, numbered, Agrees, faceNumber, Standing, Between, byNumber, RingsByNumber};
 
@@ -72,24 +73,25 @@ fn number(keys: &[u64], numbers: &mut [u32], width: usize, cell: usize, first: u
 fn number_cells(
     n: u32,
     cells: &[u32],
+    face_keys: &[u64],
     edges: &mut [u32],
     faces: &mut [u32],
     centers: &mut [u32],
 ) -> u32
     requires { ⌜ (n ≤ 1024) × (length (now cells) ≤ 1024) × (firstFault n 8 (now cells) ≡ 0) ⌝ }
     requires { ⌜ (length (now edges) ≡ 1536) × (length (now faces) ≡ 768) × (length (now centers) ≡ 128) ⌝ }
+    requires { ⌜ (length (now «face_keys») ≡ 768) × Agrees (now «face_keys») (6 * cellCount (now cells)) (faceKey (now cells)) ⌝ }
     ensures free { λ r. ⌜ r ≡ nextBy sameNodes n (now (cells .entry)) ⌝ }
     ensures numbers { λ _. ⌜ Standing n (now (cells .entry)) (now (edges .exit)) (now (faces .exit)) (now (centers .exit)) (cellCount (now (cells .entry))) ⌝ }
     ensures few { λ r. ⌜ r ≤ n + 19 * cellCount (now (cells .entry)) ⌝ }
 {
     let edge_keys = keys::edge_keys(cells);
-    let face_keys = keys::face_keys(cells);
     let mut free = n;
     let count = cells.len() / 8;
     let mut cell: usize = 0;
     while cell < count {
         free = number(&edge_keys, &mut *edges, 12, cell, free);
-        free = number(&face_keys, &mut *faces, 6, cell, free);
+        free = number(face_keys, &mut *faces, 6, cell, free);
         centers[cell] = free;
         free += 1;
         cell += 1;
@@ -122,16 +124,16 @@ fn rings_differ(first: u32, faces: &[u32], rings: &[u32], kept: &[u32], count: u
     false
 }
 
-// Whether two faces have the same nodes and different rings, where `faces` holds their numbers by their nodes.
-fn twisted(n: u32, cells: &[u32], faces: &[u32]) -> bool
-    requires { ⌜ (n ≤ 1024) × (length (now cells) ≤ 1024) × (firstFault n 8 (now cells) ≡ 0) × (length (now faces) ≡ 768) ⌝ }
+// Whether two faces have the same nodes and different rings, where `faces` holds their numbers by their nodes, and `rings` the nodes opposite the smallest.
+fn twisted(n: u32, cells: &[u32], faces: &[u32], rings: &[u32]) -> bool
+    requires { ⌜ (length (now cells) ≤ 1024) × (firstFault n 8 (now cells) ≡ 0) × (length (now faces) ≡ 768) × (length (now rings) ≡ 768) ⌝ }
     requires { ⌜ Agrees (now faces) (6 * cellCount (now cells)) (faceNumber n (now cells)) × (nextBy sameNodes n (now cells) ≤ n + 2432) ⌝ }
+    requires { ⌜ Agrees (now rings) (6 * cellCount (now cells)) (faceRing (now cells)) ⌝ }
     ensures { λ r. ⌜ r ≡ twisted (now (cells .entry)) ⌝ }
 {
     let count = 6 * (cells.len() / 8);
-    let rings = keys::face_rings(cells);
-    let kept = rings_by_number(n, faces, &rings, count);
-    rings_differ(n, faces, &rings, &kept, count)
+    let kept = rings_by_number(n, faces, rings, count);
+    rings_differ(n, faces, rings, &kept, count)
 }
 
 // Numbers all cells, and then writes their children, unless a face is twisted.
@@ -143,8 +145,9 @@ fn refine_cells(n: u32, cells: &[u32], out: &mut [u32]) -> Refined
     let mut edges = [0u32; 1536];
     let mut faces = [0u32; 768];
     let mut centers = [0u32; 128];
-    let free = number_cells(n, cells, &mut edges, &mut faces, &mut centers);
-    if twisted(n, cells, &faces) {
+    let found = keys::face_keys(cells);
+    let free = number_cells(n, cells, &found.keys, &mut edges, &mut faces, &mut centers);
+    if twisted(n, cells, &faces, &found.rings) {
         return Refined::Refused(14);
     }
     mesh_children::write_cells(cells, &edges, &faces, &centers, out);
