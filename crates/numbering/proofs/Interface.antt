@@ -106,7 +106,8 @@ module _ (n : ℕ) (cells : List ℕ) (c : ℕ) where
       let in-table = first (leb 8 m && ltb m 20) (sameNodes row (a ∷ b ∷ [])) is in
       let same-ends = second (leb 8 m && ltb m 20) (sameNodes row (a ∷ b ∷ [])) is in
       at-edge m (leb→le 8 m (first (leb 8 m) (ltb m 20) in-table)) (ltb→lt m 20 (second (leb 8 m) (ltb m 20) in-table))
-      ∙ keeps sameRing same-rings n cells (edgeOf cells c (m - 8)) (edge (map (node 8 cells c) (a ∷ b ∷ []))) (same-image (node 8 cells c) row (a ∷ b ∷ []) same-ends)
+      ∙ keeps sameRing same-rings n cells (edgeOf cells c (m - 8)) (edge (map (node 8 cells c) (a ∷ b ∷ [])))
+      (same-image (node 8 cells c) row (a ∷ b ∷ []) same-ends)
 
   numbered-at : (m f j k : ℕ) → f < 6 → T (isAt m f j k) → numbered m ≡ ringNumber n cells (λ (i : ℕ). node 8 cells c (ring f i)) j k
   numbered-at m f j k hf is =

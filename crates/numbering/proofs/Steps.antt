@@ -102,7 +102,8 @@ module _ (one : List ℕ → List ℕ → Bool) (fit : Sameness one) where
         rw (add-one, tabulate-more i row, ← append-assoc earlier (tabulate i row) (row i ∷ []))
         (meet-append same [] (earlier ++ tabulate i row) (row i ∷ []))
 
-    pub known : (i : ℕ) → i < w → among same earlier (row i) ≡ true → nextAfter one n (earlier ++ tabulate (i + 1) row) ≡ nextAfter one n (earlier ++ tabulate i row)
+    pub known : (i : ℕ) → i < w → among same earlier (row i) ≡ true →
+        nextAfter one n (earlier ++ tabulate (i + 1) row) ≡ nextAfter one n (earlier ++ tabulate i row)
     known i h t = rw (one-more i, meet-old same (different same (earlier ++ tabulate i row)) (row i) (met i h ∙ t))
 
     at-once : (i : ℕ) → i < w → (rest : List Thing) × (givenBy one cells ≡ meet same (different same (earlier ++ tabulate i row)) (row i ∷ rest))
@@ -121,7 +122,8 @@ module _ (one : List ℕ → List ℕ → Bool) (fit : Sameness one) where
         let so-far = different same (earlier ++ tabulate i row) in
         let none : among same so-far (row i) ≡ false = met i h ∙ f in
         let given-so = at-once i h in
-        let longer : length (meet same so-far (row i ∷ [])) ≡ length so-far + 1 = rw (meet-new same so-far (row i) none) (length-append so-far (row i ∷ [])) in (
+        let longer : length (meet same so-far (row i ∷ [])) ≡ length so-far + 1 =
+        rw (meet-new same so-far (row i) none) (length-append so-far (row i ∷ [])) in (
           ap (λ (p : ℕ). n + p) (ap (λ (l : List Thing). placeOf same l (row i)) (given-so .1) ∙ first-met same fit-things so-far (given-so .0) (row i) none),
           ap (λ (l : List Thing). n + length l) (one-more i) ∙ omega (arith, longer),
         )

@@ -20,47 +20,6 @@ pub data Thing : Type 0 where
   face : List ℕ → Thing
   centre : ℕ → Thing
 
--- the same members, in whatever order
-abbrev pub within : {A : Type 0} → (A → A → Bool) → List A → List A → Bool
-within same [] qs = true
-within same (p ∷ ps) qs = among same qs p && within same ps qs
-
-abbrev pub sameMembers : {A : Type 0} → (A → A → Bool) → List A → List A → Bool
-sameMembers same ps qs = within same ps qs && within same qs ps
-
--- the same node numbers
-abbrev pub sameNodes : List ℕ → List ℕ → Bool
-sameNodes ps qs = sameMembers eqb ps qs
-
--- a ring of four gone round from node s on: forward by ones or back by threes, since a ring has four nodes
-abbrev pub turned : Bool → ℕ → ℕ → ℕ
-turned back s j = s + cond back 3 1 * j
-
-abbrev pub agree : List ℕ → List ℕ → Bool → ℕ → Bool
-agree ps qs back s = all 4 (λ (j : ℕ). eqb (getD ps j 0) (getD qs (turned back s j % 4) 0))
-
--- document 02, 2/12: "Two faces are one only when their rings agree up to where they start and which way they turn."
-abbrev pub sameRing : List ℕ → List ℕ → Bool
-sameRing ps qs = any 4 (λ (s : ℕ). agree ps qs false s || agree ps qs true s)
-
--- "An edge is the unordered pair of its ends." "every centre is new"; faces by the rule `one`
-abbrev pub sameBy : (List ℕ → List ℕ → Bool) → Thing → Thing → Bool
-sameBy one (edge ps) (edge qs) = sameNodes ps qs
-sameBy one (edge ps) (face qs) = false
-sameBy one (edge ps) (centre d) = false
-sameBy one (face ps) (edge qs) = false
-sameBy one (face ps) (face qs) = one ps qs
-sameBy one (face ps) (centre d) = false
-sameBy one (centre c) (edge qs) = false
-sameBy one (centre c) (face qs) = false
-sameBy one (centre c) (centre d) = eqb c d
-
-abbrev pub same : Thing → Thing → Bool
-same = sameBy sameRing
-
-abbrev pub SameThings : Type 0
-SameThings = Sameness same
-
 -- "a flat list of cells, eight numbers each"
 abbrev pub cellCount : List ℕ → ℕ
 cellCount cells = length cells / 8
@@ -106,6 +65,45 @@ thingsTo cells c = chain c (thingsOf cells)
 abbrev pub things : List ℕ → List Thing
 things cells = thingsTo cells (cellCount cells)
 
+-- the same members, in whatever order
+abbrev pub within : {A : Type 0} → (A → A → Bool) → List A → List A → Bool
+within same [] qs = true
+within same (p ∷ ps) qs = among same qs p && within same ps qs
+
+abbrev pub sameMembers : {A : Type 0} → (A → A → Bool) → List A → List A → Bool
+sameMembers same ps qs = within same ps qs && within same qs ps
+
+-- the same node numbers
+abbrev pub sameNodes : List ℕ → List ℕ → Bool
+sameNodes ps qs = sameMembers eqb ps qs
+
+-- a ring of four gone round from node s on: forward by ones or back by threes, since a ring has four nodes
+abbrev pub turned : Bool → ℕ → ℕ → ℕ
+turned back s j = s + cond back 3 1 * j
+
+-- the ring ps is the ring qs, gone round so
+abbrev pub agree : List ℕ → List ℕ → Bool → ℕ → Bool
+agree ps qs back s = all 4 (λ (j : ℕ). eqb (getD ps j 0) (getD qs (turned back s j % 4) 0))
+
+-- document 02, 2/12: "Two faces are one only when their rings agree up to where they start and which way they turn."
+abbrev pub sameRing : List ℕ → List ℕ → Bool
+sameRing ps qs = any 4 (λ (s : ℕ). agree ps qs false s || agree ps qs true s)
+
+-- "An edge is the unordered pair of its ends." "every centre is new"; faces by the rule `one`
+abbrev pub sameBy : (List ℕ → List ℕ → Bool) → Thing → Thing → Bool
+sameBy one (edge ps) (edge qs) = sameNodes ps qs
+sameBy one (edge ps) (face qs) = false
+sameBy one (edge ps) (centre d) = false
+sameBy one (face ps) (edge qs) = false
+sameBy one (face ps) (face qs) = one ps qs
+sameBy one (face ps) (centre d) = false
+sameBy one (centre c) (edge qs) = false
+sameBy one (centre c) (face qs) = false
+sameBy one (centre c) (centre d) = eqb c d
+
+abbrev pub same : Thing → Thing → Bool
+same = sameBy sameRing
+
 -- "Two faces with the same four nodes and different rings make the mesh wrong.": one by their nodes and not by their rings
 abbrev pub twist : Thing → Thing → Bool
 twist x y = sameBy sameNodes x y && not (same x y)
@@ -113,6 +111,9 @@ twist x y = sameBy sameNodes x y && not (same x y)
 -- some two of all faces of all cells are such
 unfoldable pub twisted : List ℕ → Bool
 twisted cells = not (apart twist (chain (cellCount cells) (facesOf cells)))
+
+abbrev pub SameThings : Type 0
+SameThings = Sameness same
 
 -- The numbering, over the rule for faces.
 module _ (one : List ℕ → List ℕ → Bool) where

@@ -95,7 +95,8 @@ cell-children n cells edges faces centers m c held below =
     same-children {corner = row 8 cells c} {center = getD centers c 0} refl
     (row-is 12 c m edges (λ (d e : ℕ). numberBy sameNodes n cells (edgeOf cells d e)) below (held .ofEdges))
     (row-is 6 c m faces (λ (d f : ℕ). numberBy sameNodes n cells (faceOf cells d f)) below (held .ofFaces))
-    ∙ ap (children (row 8 cells c) (map (numberBy sameNodes n cells) (edgesOf cells c)) (map (numberBy sameNodes n cells) (facesOf cells c))) (held .ofCentres c below)
+    ∙ ap (children (row 8 cells c) (map (numberBy sameNodes n cells) (edgesOf cells c)) (map (numberBy sameNodes n cells) (facesOf cells c)))
+    (held .ofCentres c below)
 
 -- of all cells
 chain-alike : {A : Type 0} (m : ℕ) (f g : ℕ → List A) → ((c : ℕ) → c < m → f c ≡ g c) → chain m f ≡ chain m g

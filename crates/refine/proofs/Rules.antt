@@ -184,7 +184,8 @@ module _ (n : ℕ) (few : n ≤ 1024) (cells : List ℕ) (sound : (d : ℕ) → 
         let before = (thingsTo cells c ++ edgesOf cells c) ++ facesOf cells c in
         let past = chain-past c (cellCount cells) (thingsOf cells) below in
         let all = past .1 ∙ in-three (thingsTo cells c) (edgesOf cells c) (facesOf cells c) (centre c ∷ []) (past .0) in
-        let first = new sameNodes same-nodes n cells 1 (λ (i : ℕ). centre c) before (past .0) all (λ i k less h. absurd (omega arith)) 0 (omega arith) not-met in
+        let first = new sameNodes same-nodes n cells 1 (λ (i : ℕ). centre c) before (past .0) all (λ i k less h. absurd (omega arith)) 0 (omega arith)
+        not-met in
         let none : nextAfter sameNodes n (before ++ []) ≡ nextAfter sameNodes n before = ap (nextAfter sameNodes n) (append-nil before) in (
           first .0 ∙ none,
           ap (λ (d : ℕ). nextAfter sameNodes n (thingsTo cells d)) (add-one c)

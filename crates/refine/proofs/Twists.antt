@@ -1,4 +1,5 @@
--- Faces with one number have the same nodes, so that a mesh is twisted exactly when some face has another ring than the one kept for its number. Assumes nothing.
+-- Faces with one number have the same nodes, so that a mesh is twisted exactly when some face has another ring than the one kept for its number.
+-- Assumes nothing.
 use Prim.Native.Nat.{ℕ, _+_, _*_, _-_, _/_, _%_, _≤_, _<_}
 use native.Mathlib.Nat.{mod-lt}
 use native.Mathlib.Omega.{arith}

@@ -1,5 +1,5 @@
--- What the search, and the numbering of one cell's edges or faces, owe whatever the keys stand for. The code numbers faces by their nodes, as document 01 has it,
--- and then looks whether those with one number have one ring. No public promise cites these. Definitions only.
+-- What the search, and the numbering of one cell's edges or faces, owe whatever the keys stand for. The code numbers faces by their nodes, as document
+-- 01 has it, and then looks whether those with one number have one ring. No public promise cites these. Definitions only.
 use Prim.Native.Nat.{ℕ, _+_, _*_, _-_, _/_, _%_, _≤_, _<_}
 use mathlib.Core.Path.{_≡_}
 use mathlib.Core.Bool.{Bool, cond, not}

@@ -161,8 +161,8 @@ examples =
     ∷ requested 2 (decided (sameRing (1 ∷ 2 ∷ 6 ∷ 5 ∷ []) (6 ∷ 2 ∷ 1 ∷ 5 ∷ []))) (decided true)
     ∷ requested 2 (decided (sameRing (1 ∷ 2 ∷ 6 ∷ 5 ∷ []) (1 ∷ 6 ∷ 2 ∷ 5 ∷ []))) (decided false)
     ∷ requested 2 (decided (sameNodes (1 ∷ 2 ∷ 6 ∷ 5 ∷ []) (1 ∷ 6 ∷ 2 ∷ 5 ∷ []))) (decided true)
-    -- two cells that share a face have the next free number that they had; with its ring spoiled, where document 01's rule had two edges more, they are refused,
-    -- but for want of room first
+    -- two cells that share a face have the next free number that they had; with its ring spoiled, where document 01's rule had two edges more, they are
+    -- refused, but for want of room first
     ∷ requested 2 (number (refined 12 glued 128)) (number (answered 45))
     ∷ requested 2 (number (answered (nextBy sameNodes 12 spoiled))) (number (answered 47))
     ∷ requested 2 (number (refined 12 spoiled 128)) (number (refused 14))

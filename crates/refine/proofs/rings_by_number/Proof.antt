@@ -24,7 +24,8 @@ loop-again c =
     let args = turn .before .args in (
       omega arith,
       simp length-set (inv .1),
-      rings-more (args .first) (args .faces .now) (args .rings .now) (turn .loop .last) (turn .loop .j) (λ i below. turn .before .pre .2 i (omega arith)) (inv .1) (inv .2),
+      rings-more (args .first) (args .faces .now) (args .rings .now) (turn .loop .last) (turn .loop .j)
+          (λ i below. turn .before .pre .2 i (omega arith)) (inv .1) (inv .2),
     )
 
 returns : tie.Need-returns Inv-loop μ-loop
