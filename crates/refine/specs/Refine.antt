@@ -1,6 +1,7 @@
 -- What a refinement answers and leaves in the output. Document 01, "Refinement", with document 02, 2/12. Definitions and claims only.
 use Prim.Native.Nat.{ℕ, _*_, _%_}
-use mathlib.Core.Bool.{cond, not}
+use mathlib.Core.Path.{_≡_}
+use mathlib.Core.Bool.{false, cond, not}
 use mathlib.Core.List.{List}
 use lib.Dec.{eqb, ltb}
 use lib.ListN.{length}
@@ -38,3 +39,7 @@ told (Refused number) = refused number
 -- So the contract leaves one possible answer.
 abbrev pub ToldLosesNothing : Type 0
 ToldLosesNothing = LosesNothing told
+
+-- An accepted mesh has no twisted face, so that numbering's `NoTear` and `GoodMeshesKeepTheirNumbers` speak of it.
+abbrev pub AcceptedIsStraight : Type 0
+AcceptedIsStraight = (n : ℕ) (cells : List ℕ) (room free : ℕ) → refined n cells room ≡ answered free → twisted cells ≡ false
