@@ -1,9 +1,12 @@
 -- What is told of an answer leaves one answer, and what an answer tells of the mesh. Assumes nothing.
-use Prim.Native.Nat.{_*_, _%_}
-use mathlib.Core.Bool.{not}
+use Prim.Native.Nat.{ℕ, _*_, _%_}
+use mathlib.Core.Path.{_≡_, refl, sym, ap, _∙_}
+use mathlib.Core.Bool.{Bool, true, false, cond, not}
+use mathlib.Core.List.{List}
 use lib.Dec.{eqb, ltb}
 use lib.ListN.{length}
-use Rattle.answer.proofs.Answers.{unless}
+use Rattle.numbers.proofs.Cases.{never, is-false}
+use Rattle.answer.specs.Answer.{Answer, answered, refused}
 use Rattle.faults.specs.Faults.{firstFault}
 use Rattle.numbering.specs.Refinement.{cellCount, twisted}
 use Rattle.refine.specs.Refine.{refined, ToldLosesNothing, AcceptedIsStraight}
@@ -15,12 +18,24 @@ told-loses-nothing (Next x) (Refused y) h = cc
 told-loses-nothing (Refused x) (Next y) h = cc
 told-loses-nothing (Refused x) (Refused y) h = cc
 
-pub accepted-is-straight : AcceptedIsStraight
+abbrev accepts : Answer ℕ → Bool
+accepts (answered free) = true
+accepts (refused k) = false
+
+neither : (test : Bool) (x y : Answer ℕ) → accepts x ≡ false → accepts y ≡ false → accepts (cond test x y) ≡ false
+neither true x y h k = h
+neither false x y h k = k
+
+-- with a twisted face every rung refuses
+not-accepted : (n : ℕ) (cells : List ℕ) (room : ℕ) → twisted cells ≡ true → accepts (refined n cells room) ≡ false
 unfolding refined
-accepted-is-straight n cells room free e =
-    let few-nodes = unless (ltb 1024 n) 7 _ free e in
-    let few-cells = unless (ltb 1024 (length cells)) 7 _ free (few-nodes .1) in
-    let whole = unless (not (eqb (length cells % 8) 0)) 8 _ free (few-cells .1) in
-    let enough = unless (ltb room (64 * cellCount cells)) 8 _ free (whole .1) in
-    let faultless = unless (not (eqb (firstFault n 8 cells) 0)) (firstFault n 8 cells) _ free (enough .1) in
-    unless (twisted cells) 14 _ free (faultless .1) .0
+not-accepted n cells room t =
+    rw t
+    (neither (ltb 1024 n) _ _ refl
+    (neither (ltb 1024 (length cells)) _ _ refl
+    (neither (not (eqb (length cells % 8) 0)) _ _ refl
+    (neither (ltb room (64 * cellCount cells)) _ _ refl
+    (neither (not (eqb (firstFault n 8 cells) 0)) _ _ refl refl)))))
+
+pub accepted-is-straight : AcceptedIsStraight
+accepted-is-straight n cells room free e = is-false (twisted cells) (λ t. never (sym (ap accepts e) ∙ not-accepted n cells room t))
