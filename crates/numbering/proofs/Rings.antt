@@ -1,7 +1,7 @@
 -- Rings of four different nodes. Two of them that have the same nodes are an order of four places, and what is said of an order is one computed test over the
 -- places. Assumes nothing.
 use Prim.Native.Nat.{ℕ, zero, suc, _+_, _%_, _<_}
-use native.Mathlib.Nat.{le-of-suc-le-suc, not-suc-le-zero, mod-lt}
+use native.Mathlib.Nat.{le-of-suc-le-suc, not-suc-le-zero}
 use native.Mathlib.Omega.{arith}
 use mathlib.Core.Path.{_≡_, refl, sym, ap, ap₂, _∙_}
 use mathlib.Core.Bool.{Bool, true, false, _&&_, _||_, not, cond}
@@ -19,7 +19,7 @@ use Rattle.numbers.proofs.Tests.{first, second, all-at, all-at-pair}
 use Rattle.numbering.specs.Refinement.{within, sameMembers, sameNodes, turned, agree, sameRing}
 use Rattle.numbering.specs.Rings.{Four, side, sides, sharedSides, order, threeRings, RingsBySides, TwistedTears}
 use Rattle.numbering.proofs.Cells.{eqb-map}
-use Rattle.numbering.proofs.Same.{among-at, members, same-nodes, all-within, ring-nodes, is-round}
+use Rattle.numbering.proofs.Same.{among-at, members, same-nodes, around, all-within, ring-nodes, is-round}
 use Rattle.numbering.proofs.Steps.{tabulate-found}
 
 -- ---- what is alike where the numbers compare alike
@@ -43,9 +43,6 @@ pairs-alike : (a b c d a′ b′ c′ d′ : ℕ) → eqb a c ≡ eqb a′ c′ 
     → sameNodes (a ∷ b ∷ []) (c ∷ d ∷ []) ≡ sameNodes (a′ ∷ b′ ∷ []) (c′ ∷ d′ ∷ [])
 pairs-alike a b c d a′ b′ c′ d′ ac ad bc bd =
     rw (eqb-sym c a, eqb-sym d a, eqb-sym c b, eqb-sym d b, eqb-sym c′ a′, eqb-sym d′ a′, eqb-sym c′ b′, eqb-sym d′ b′, ac, ad, bc, bd)
-
-around : (x : ℕ) → x % 4 < 4
-around x = mod-lt x (omega arith)
 
 -- the nodes of one ring compare with those of another as these places do with those
 abbrev Alike : List ℕ → List ℕ → List ℕ → List ℕ → Type 0

@@ -124,7 +124,7 @@ turn-back : (a : Bool) (s : ℕ) → s < 4 → T (turnBack a s)
 turn-back true = all-at 4 (turnBack true) tt
 turn-back false = all-at 4 (turnBack false) tt
 
-around : (x : ℕ) → x % 4 < 4
+pub around : (x : ℕ) → x % 4 < 4
 around x = mod-lt x (omega arith)
 
 then-round : (ps qs rs : List ℕ) → Round ps qs → Round qs rs → Round ps rs
