@@ -4,3 +4,5 @@ pub mod Expand
 pub mod Collect
 pub mod Solve
 pub mod Slopes
+pub mod Sizes
+pub mod Straight

@@ -1,3 +1,4 @@
 pub mod Integers
 pub mod Fractions
+pub mod Sizes
 pub mod Slopes
