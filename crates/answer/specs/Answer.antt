@@ -21,6 +21,11 @@ unfoldable pub after : {A : Type 0} → (A → Answer A) → A → ℕ → Answe
 after step start zero = answered start
 after step start (suc n) = andThen (after step start n) step
 
+-- an answer for each of a list, in its order; where one is refused, so are all
+unfoldable pub each : {A B : Type 0} → (A → Answer B) → List A → Answer (List B)
+each f [] = answered []
+each f (x ∷ xs) = andThen (f x) (λ b. andThen (each f xs) (λ bs. answered (b ∷ bs)))
+
 -- f tells any two values apart: what is said of f x leaves one possible x
 abbrev pub LosesNothing : {A B : Type 0} → (A → B) → Type 0
 LosesNothing {A = A} f = (x y : A) → f x ≡ f y → x ≡ y

@@ -13,3 +13,4 @@ pub mod Stored
 pub mod Table
 pub mod Tabulate
 pub mod Tests
+pub mod Least

@@ -33,6 +33,11 @@ abbrev pub any : ℕ → (ℕ → Bool) → Bool
 any zero p = false
 any (suc n) p = p n || any n p
 
+-- the first of 0 .. n - 1 that passes, or n where none does
+abbrev pub least : ℕ → (ℕ → Bool) → ℕ
+least zero p = 0
+least (suc n) p = cond (p 0) 0 (suc (least n (λ (k : ℕ). p (suc k))))
+
 -- the list less the number j
 abbrev pub without : ℕ → List ℕ → List ℕ
 without j [] = []
