@@ -1,0 +1,3 @@
+pub mod Volume
+pub mod Determinants
+pub mod Laws
