@@ -1,9 +1,12 @@
 -- 216 times the volume is 18 times the sum of three determinants: both are multiplied out over 24 unknown coordinates, and their terms cancel. Assumes nothing.
+use Prim.Native.Nat.{ℕ}
+use mathlib.Core.Path.{_≡_, sym, _∙_}
 use mathlib.Core.List.{[]}
-use lib.Dec.{T}
-use lib.IntN.{pos}
-use Rattle.integers.proofs.Expression.{Expression, expressions}
-use Rattle.integers.proofs.Solve.{same, solve}
+use lib.IntN.{ℤ, pos}
+use lib.ListN.{getD}
+use Rattle.numbers.specs.Rule.{tabulate}
+use Rattle.integers.proofs.Expression.{expressions}
+use Rattle.integers.proofs.Solve.{solve}
 use Rattle.exact_volume.specs.Volume.{volumeIn, volume216}
 use Rattle.exact_volume.specs.Determinants.{byDeterminants, ThreeDeterminants}
 use Rattle.exact_volume.proofs.Corners.{numeral, X, Y, Z, corners}
@@ -11,3 +14,9 @@ use Rattle.exact_volume.proofs.Corners.{numeral, X, Y, Z, corners}
 pub three-determinants : ThreeDeterminants
 unfolding volume216
 three-determinants x y z = solve (corners x y z []) (volumeIn expressions numeral X Y Z) (byDeterminants expressions numeral X Y Z) tt
+
+-- so that it goes by the eight corners alone
+pub corners-alone : (x y z : ℕ → ℤ)
+    → volume216 (λ (k : ℕ). getD (tabulate 8 x) k (pos 0)) (λ (k : ℕ). getD (tabulate 8 y) k (pos 0)) (λ (k : ℕ). getD (tabulate 8 z) k (pos 0))
+    ≡ volume216 x y z
+corners-alone x y z = three-determinants _ _ _ ∙ sym (three-determinants x y z)

@@ -1,3 +1,4 @@
 pub mod Corners
 pub mod Determinants
 pub mod Laws
+pub mod Sizes

@@ -184,7 +184,8 @@ read-found coords corners s n c nodes nodes′ cells cells′ room space r =
 
 -- and the words at the head of the list of nodes
 pub read-words : (coords corners : ℕ) (s : List ℕ) (n c : ℕ) (nodes nodes′ cells cells′ : List ℕ) → mostWords ≤ coords → mostNumbers ≤ corners
-    → Reads (meshInto coords corners s) (Counts n c) nodes nodes′ cells cells′ → take (3 * n) nodes′ ≡ meshAt s .coords
+    → Reads (meshInto coords corners s) (Counts n c) nodes nodes′ cells cells′
+    → (take (3 * n) nodes′ ≡ meshAt s .coords) × (length (take (3 * n) nodes′) ≡ 3 * n)
 unfolding meshAt
 read-words coords corners s n c nodes nodes′ cells cells′ room space r =
     let enough = enough-room coords corners s room space in
@@ -192,4 +193,5 @@ read-words coords corners s n c nodes nodes′ cells cells′ room space r =
     let word : ℕ → ℕ = λ i. numberAt s 8 (headLength + 8 * i) in
     let whole : length (meshAt s .coords) ≡ 3 * n = length-tabulate (3 * nodeCount s) word ∙ ap (λ (k : ℕ). 3 * k) (file .nodes) in
     let found : meshInto coords corners s ≡ answered (meshAt s) = enough ∙ passed-accepted s (file .passed) in
-    ap (take (3 * n)) (rw found at (r .nodesLeft)) ∙ take-at (meshAt s .coords) _ (3 * n) whole
+    let head : take (3 * n) nodes′ ≡ meshAt s .coords = ap (take (3 * n)) (rw found at (r .nodesLeft)) ∙ take-at (meshAt s .coords) _ (3 * n) whole in
+    (head, ap length head ∙ whole)

@@ -54,55 +54,52 @@ codes =
       _!_ = λ (l : List Code) (k : ℕ). getD l k (num 0);
     }
 
--- what is meant, where argument i is number i of a list
-abbrev pub meant : List ℤ → Code → ℤ
-meant ρ (arg i) = getD ρ i (pos 0)
+-- what is meant, where argument i is ρ i
+abbrev pub meant : (ℕ → ℤ) → Code → ℤ
+meant ρ (arg i) = ρ i
 meant ρ (num k) = pos k
 meant ρ (op o a b) = act o (meant ρ a) (meant ρ b)
 
 -- what the machine has, and what it has before it goes into bits
-abbrev pub got : List ℤ → Code → ℤ
-got ρ (arg i) = back (getD ρ i (pos 0))
+abbrev pub got : (ℕ → ℤ) → Code → ℤ
+got ρ (arg i) = back (ρ i)
 got ρ (num k) = pos k
 got ρ (op o a b) = back (act o (got ρ a) (got ρ b))
 
-abbrev pub raw : List ℤ → Code → ℤ
-raw ρ (arg i) = getD ρ i (pos 0)
+abbrev pub raw : (ℕ → ℤ) → Code → ℤ
+raw ρ (arg i) = ρ i
 raw ρ (num k) = pos k
 raw ρ (op o a b) = act o (got ρ a) (got ρ b)
 
--- a bound of its size, where argument i is at most number i of a list of bounds
-abbrev pub size : List ℕ → Code → ℕ
-size β (arg i) = getD β i 0
+-- a bound of its size, where argument i is at most β i in size
+abbrev pub size : (ℕ → ℕ) → Code → ℕ
+size β (arg i) = β i
 size β (num k) = k
 size β (op o a b) = most o (size β a) (size β b)
 
-abbrev small : List ℕ → Code → Bool
+abbrev small : (ℕ → ℕ) → Code → Bool
 small β e = ltb (size β e) (2 ^ 63)
 
 -- every result on the way is small
-abbrev pub easy : List ℕ → Code → Bool
+abbrev pub easy : (ℕ → ℕ) → Code → Bool
 easy β (arg i) = small β (arg i)
 easy β (num k) = small β (num k)
 easy β (op o a b) = easy β a && (easy β b && small β (op o a b))
 
-pub record Bounded (β : List ℕ) (ρ : List ℤ) : Type 0 where
-  pub at : (i : ℕ) → Within (getD β i 0) (getD ρ i (pos 0))
-
-pub record Exact (β : List ℕ) (ρ : List ℤ) (e : Code) : Type 0 where
+pub record Exact (β : ℕ → ℕ) (ρ : ℕ → ℤ) (e : Code) : Type 0 where
   pub fits : SFits w64 (raw ρ e)
   pub gives : got ρ e ≡ meant ρ e
   pub sized : Within (size β e) (meant ρ e)
 
-module _ (β : List ℕ) (ρ : List ℤ) where
+module _ (β : ℕ → ℕ) (ρ : ℕ → ℤ) where
   -- from what it has before it goes into bits
   close : (e : Code) → got ρ e ≡ back (raw ρ e) → raw ρ e ≡ meant ρ e → Within (size β e) (meant ρ e) → T (small β e) → Exact β ρ e
   close e g r w t =
       let f : SFits w64 (raw ρ e) = subst⁻¹ (λ (z : ℤ). SFits w64 z) r (within-fits t w) in
       record { fits = f; gives = g ∙ toZ-ofZ f ∙ r; sized = w }
 
-  pub exact : Bounded β ρ → (e : Code) → T (easy β e) → Exact β ρ e
-  exact h (arg i) t = close (arg i) refl refl (h .at i) t
+  pub exact : ((i : ℕ) → Within (β i) (ρ i)) → (e : Code) → T (easy β e) → Exact β ρ e
+  exact h (arg i) t = close (arg i) refl refl (h i) t
   exact h (num k) t = record { fits = within-fits t (within-self k); gives = refl; sized = within-self k }
   exact h (op o a b) t =
       let rest = second (easy β a) (easy β b && small β (op o a b)) t in

@@ -1,7 +1,8 @@
 -- Lists by rule. Assumes nothing.
 use Prim.Native.Nat.{ℕ, zero, suc, _<_}
 use native.Mathlib.Nat.{le-of-suc-le-suc, not-suc-le-zero}
-use mathlib.Core.Path.{_≡_, refl}
+use mathlib.Core.Path.{_≡_, refl, ap}
+use mathlib.Core.List.{List, _∷_, map}
 use lib.ListN.{getD}
 use Rattle.numbers.specs.Rule.{tabulate}
 
@@ -16,3 +17,14 @@ pub tabulate-at {ℓ} : {A : Type ℓ} (n : ℕ) (f : ℕ → A) (d : A) (k : �
 tabulate-at zero f d k h = absurd (not-suc-le-zero h)
 tabulate-at (suc n) f d zero h = refl
 tabulate-at (suc n) f d (suc k) h = tabulate-at n (λ (i : ℕ). f (suc i)) d k (le-of-suc-le-suc h)
+
+-- what holds of the rule at each number, and of what stands behind the end, holds of the list at each place
+pub tabulate-holds {ℓ} : {A : Type ℓ} (P : A → Type 0) (n : ℕ) (f : ℕ → A) (d : A) → ((k : ℕ) → P (f k)) → P d → (i : ℕ) → P (getD (tabulate n f) i d)
+tabulate-holds P zero f d each behind i = behind
+tabulate-holds P (suc n) f d each behind zero = each 0
+tabulate-holds P (suc n) f d each behind (suc i) = tabulate-holds P n (λ (k : ℕ). f (suc k)) d (λ k. each (suc k)) behind i
+
+-- a rule, and what is made of each
+pub map-tabulate : {A B : Type 0} (g : A → B) (n : ℕ) (f : ℕ → A) → map g (tabulate n f) ≡ tabulate n (λ (k : ℕ). g (f k))
+map-tabulate g zero f = refl
+map-tabulate g (suc n) f = ap (λ (l : List _). g (f 0) ∷ l) (map-tabulate g n (λ (k : ℕ). f (suc k)))

@@ -1,0 +1,5 @@
+pub mod Steps
+pub mod Cells
+pub mod Words
+pub mod Sums
+pub mod Meshes

@@ -1,0 +1,63 @@
+-- One turn of the sum of volumes. Assumes nothing.
+use Prim.Native.Nat.{ℕ, suc, _+_, _*_, _≤_, _<_}
+use native.Mathlib.Numerals.{add-one}
+use native.Mathlib.Omega.{arith}
+use mathlib.Core.Path.{_≡_, refl, sym, _∙_, ap, subst, subst⁻¹}
+use mathlib.Core.List.{List, [], _∷_}
+use lib.IntN.{ℤ, pos, _+ℤ_, +ℤ-assoc, +ℤ-idl, +ℤ-idr}
+use lib.ListN.{length, drop, getD}
+use lib.Seq.{drop-cons, drop-length}
+use mir.Syntax.{w64}
+use mir.Val.{SFits}
+use mir.Facts.{toZ-ofZ}
+use Rattle.integers.specs.Sizes.{Within, EachWithin}
+use Rattle.integers.proofs.Sizes.{within-add, within-fits, within-back, within-more, back}
+use Rattle.volume_report.specs.Report.{total}
+
+-- the most that a cell's volume can be: 18 times three determinants, each of six products of 4,096, 2,048 and 2,048
+abbrev pub most : ℕ
+most = 5566277615616
+
+-- what the loop holds: s is the sum of the first c volumes
+pub record Summed (volumes : List ℤ) (c : ℕ) (s : ℤ) : Type 0 where
+  pub within : c ≤ length volumes
+  pub rest : s +ℤ total (drop c volumes) ≡ total volumes
+  pub small : Within (c * most) s
+
+pub summed-none : (volumes : List ℤ) → Summed volumes 0 (pos 0)
+summed-none volumes = record { within = omega arith; rest = +ℤ-idl (total volumes); small = record { within = omega arith } }
+
+pub summed-all : {volumes : List ℤ} {c : ℕ} {s : ℤ} → Summed volumes c s → length volumes ≤ c → s ≡ total volumes
+summed-all {volumes} {c} {s} h all =
+    let last : c ≡ length volumes = omega (arith, h .within) in
+    let nothing : drop c volumes ≡ [] = ap (λ (n : ℕ). drop n volumes) last ∙ drop-length volumes in
+    sym (+ℤ-idr s) ∙ ap (λ (l : List ℤ). s +ℤ total l) (sym nothing) ∙ h .rest
+
+module _ (volumes : List ℤ) (sized : EachWithin most volumes) (few : length volumes ≤ 128) (c : ℕ) (s : ℤ) (h : Summed volumes c s) (more : c < length volumes) where
+  abbrev volume : ℤ
+  volume = getD volumes c (pos 0)
+
+  same : back volume ≡ volume
+  same = within-back tt (sized .at c)
+
+  sum-small : Within (c * most + most) (s +ℤ volume)
+  sum-small = within-add (h .small) (sized .at c)
+
+  pub sum-fits : SFits w64 (s +ℤ back (getD volumes c (pos 0)))
+  sum-fits = subst⁻¹ (λ (v : ℤ). SFits w64 (s +ℤ v)) same (within-fits {n = 128 * most} tt (within-more (omega arith) sum-small))
+
+  sum-is : back (s +ℤ back (getD volumes c (pos 0))) ≡ s +ℤ volume
+  sum-is = toZ-ofZ sum-fits ∙ ap (λ (v : ℤ). s +ℤ v) same
+
+  pub summed-more : Summed volumes (c + 1) (back (s +ℤ back (getD volumes c (pos 0))))
+  summed-more =
+      record {
+        within = omega arith;
+        rest =
+            ap (λ (v : ℤ). v +ℤ total (drop (c + 1) volumes)) sum-is
+            ∙ +ℤ-assoc s volume (total (drop (c + 1) volumes))
+            ∙ ap (λ (n : ℕ). s +ℤ (volume +ℤ total (drop n volumes))) (add-one c)
+            ∙ ap (λ (l : List ℤ). s +ℤ total l) (sym (drop-cons volumes c (pos 0) more))
+            ∙ h .rest;
+        small = subst⁻¹ (Within ((c + 1) * most)) sum-is (within-more (omega arith) sum-small);
+      }

@@ -1,0 +1,3 @@
+pub mod Report
+pub mod Told
+pub mod Sized

@@ -1,0 +1,34 @@
+-- What the steps of a cell's volume give and how large it is, so that no step leaves 64 bits. Definitions only.
+use Prim.Native.Nat.{ℕ, _+_, _*_, _≤_, _<_}
+use mathlib.Core.Path.{_≡_}
+use mathlib.Core.List.{List, [], _∷_}
+use lib.IntN.{ℤ, pos}
+use lib.ListN.{length, getD}
+use Rattle.integers.specs.Integers.{integers}
+use Rattle.integers.specs.Sizes.{Within, EachWithin}
+use Rattle.exact_volume.specs.Determinants.{along}
+
+-- number k of a list, as a coordinate of corner k
+abbrev pub at : List ℤ → ℕ → ℤ
+at x k = getD x k (pos 0)
+
+-- three differences of corners on the grid: twice the grid's width of 2,048, and the width
+pub record Row (a b c : ℤ) : Type 0 where
+  pub twist : Within 4096 a
+  pub far : Within 2048 b
+  pub near : Within 2048 c
+
+-- the differences that `along` gives
+pub record Differences (x : List ℤ) (p q u v : ℕ) (a b c : ℤ) : Type 0 where
+  pub are : a ∷ b ∷ c ∷ [] ≡ along integers pos (at x) p q u v
+  pub small : Row a b c
+
+-- a determinant of three such rows: six products of 4,096, 2,048 and 2,048
+pub record Part (z r : ℤ) : Type 0 where
+  pub is : r ≡ z
+  pub small : Within 103079215104 r
+
+-- numbers on the grid, three for each node that the cells name
+pub record OnGrid (numbers : List ℤ) (cells : List ℕ) : Type 0 where
+  pub small : EachWithin 1024 numbers
+  pub named : (j : ℕ) → j < length cells → 3 * getD cells j 0 + 3 ≤ length numbers
