@@ -2,13 +2,13 @@
 use Prim.Native.Nat.{ℕ, _/_, _%_, _≤_}
 use mathlib.Core.Path.{_≡_, refl, subst}
 use mathlib.Core.Bool.{Bool, true, false, _&&_, cond}
-use mathlib.Core.List.{[], _∷_}
+use mathlib.Core.List.{List}
 use lib.Dec.{T, eqb, leb, leb→le}
 use lib.IntN.{ℤ, pos, negℤ, natAbs}
 use lib.Ieee.{Float}
 use lib.Ieee.Scale.{finite}
 use Rattle.numbers.proofs.Tests.{first, second, holds}
-use Rattle.answer.specs.Answer.{Answer, answered, refused, RefusesBy}
+use Rattle.answer.specs.Answer.{Answer, answered, refused, isOneOf, RefusesBy}
 use Rattle.answer.proofs.Answers.{answered-same, never, refuses-else}
 use Rattle.integers.specs.Sizes.{Within}
 use Rattle.integers.proofs.Sizes.{within-self, within-neg, within-more}
@@ -30,6 +30,6 @@ grid-small x z e = by (isGrid x) refl e
         subst (Within 1024) (answered-same e) (signed-small (isNegative x) (size x / one) few)
     by false good e = absurd (never 15 z e)
 
-pub grid-refuses : (x : Float) → RefusesBy (15 ∷ []) (gridNumber x)
+pub grid-refuses : (ns : List ℕ) (x : Float) → T (isOneOf ns 15) → RefusesBy ns (gridNumber x)
 unfolding gridNumber
-grid-refuses x = refuses-else (15 ∷ []) (isGrid x) (withSign (isNegative x) (size x / one)) 15 tt
+grid-refuses ns x listed = refuses-else ns (isGrid x) (withSign (isNegative x) (size x / one)) 15 listed

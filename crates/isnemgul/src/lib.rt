@@ -32,6 +32,8 @@ ghost use Rattle.prism_children.specs.Children.{children as prismChildren};
 ghost use Rattle.descendant.specs.Place.{descended};
 ghost use Rattle.hxm.specs.Reads.{counts as countsOf, coordsOf, cornersOf, meshInto};
 ghost use Rattle.hxm_write.specs.Writes.{lengthOf, fileInto};
+ghost use Rattle.volume_report.specs.Report.{reportInto, volumesIn};
+ghost use Rattle.volume_report.specs.Told.{summaryOf, totalTold, countsTold};
 ghost use Rattle.refine.specs.Refine.{refined, childrenIn};
 
 fn wide(x: u32) -> usize
@@ -365,4 +367,20 @@ pub extern "C" fn isn_hxm_write(nodes: &[u64], cells: &[u32], out: &mut [u8], si
     ensures output { λ _. ⌜ now (out .exit) ≡ left (fileInto (length (now (out .entry))) (now (nodes .entry)) (now (cells .entry))) (now (out .entry)) ⌝ }
 {
     mesh_answers::put_writing(hxm_write::write(nodes, cells, out), size)
+}
+
+#[no_mangle]
+pub extern "C" fn isn_volume_report(
+    bytes: &[u8],
+    volumes: &mut [i64],
+    total: &mut i64,
+    counts: &mut [u32; 2],
+) -> u32
+    ensures sum { λ r. ⌜ Leaves (totalTold (summaryOf (reportInto (length (now (volumes .entry))) (now (bytes .entry))))) r
+        (now (total .entry)) (now (total .exit)) ⌝ }
+    ensures cells { λ r. ⌜ Leaves (countsTold (summaryOf (reportInto (length (now (volumes .entry))) (now (bytes .entry))))) r
+        (now (counts .entry)) (now (counts .exit)) ⌝ }
+    ensures output { λ _. ⌜ now (volumes .exit) ≡ left (volumesIn (reportInto (length (now (volumes .entry))) (now (bytes .entry)))) (now (volumes .entry)) ⌝ }
+{
+    mesh_answers::put_reported(volume_report::report(bytes, volumes), total, counts)
 }

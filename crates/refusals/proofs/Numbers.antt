@@ -3,9 +3,10 @@ use Prim.Native.Nat.{ℕ, zero, suc}
 use mathlib.Core.Bool.{Bool, true, false, not, cond}
 use mathlib.Core.List.{List, [], _∷_}
 use lib.Dec.{T, eqb}
-use lib.Ieee.{Float}
+use lib.Ieee.{Float, ofBits, binary64}
 use Rattle.answer.specs.Answer.{Answer, answered, refused, isOneOf, RefusesBy}
 use Rattle.answer.proofs.Answers.{refuses-unless, refuses-else, refuses-then}
+use Rattle.answer.proofs.Each.{refuses-each}
 use Rattle.faults.specs.Faults.{inRange, different, faultAt, firstTo, node}
 use Rattle.cell.proofs.Refusals.{inverse-refuses, step-refuses, locate-refuses}
 use Rattle.hex_locate.proofs.Refusals.{located-refuses}
@@ -17,8 +18,10 @@ use Rattle.descendant.specs.Place.{descended}
 use Rattle.hxm.specs.Format.{faultOf, meshOf}
 use Rattle.hxm.specs.Reads.{meshInto}
 use Rattle.hxm_write.specs.Writes as Write
+use Rattle.grid_number.proofs.Small.{grid-refuses}
+use Rattle.volume_report.specs.Report.{gridNumbers, roomFor, reportOf, reportInto}
 use Rattle.refine.specs.Refine.{refined}
-use Rattle.refusals.specs.Numbers.{fileNumbers, writeNumbers, refineNumbers, RefusalsNumbered}
+use Rattle.refusals.specs.Numbers.{fileNumbers, writeNumbers, reportNumbers, refineNumbers, RefusalsNumbered}
 
 -- ---- the first fault of some cells is 0, 9 or 10
 either : (P : ℕ → Type 0) (b : Bool) (x y : ℕ) → P x → P y → P (cond b x y)
@@ -49,13 +52,24 @@ descended-refuses : (path : List ℕ) (k : ℕ) → RefusesBy (7 ∷ 9 ∷ []) (
 unfolding descended
 descended-refuses path k = search (refuses-unless, refuses-else)
 
-mesh-refuses : (s : List ℕ) → RefusesBy fileNumbers (meshOf s)
+-- a file is refused by the reader's numbers, whatever others there are
+mesh-refuses : (ns : List ℕ) → T (isOneOf ns 13) → T (isOneOf ns 11) → T (isOneOf ns 12) → T (isOneOf ns 7) → T (isOneOf ns 9) → T (isOneOf ns 10)
+    → (s : List ℕ) → RefusesBy ns (meshOf s)
 unfolding meshOf faultOf
-mesh-refuses s = search (refuses-unless, unless-faulty fileNumbers tt tt) depth 7
+mesh-refuses ns length-wrong mark version limit nine ten s = search (refuses-unless, unless-faulty ns nine ten) depth 7
 
 file-refuses : (coords corners : ℕ) (s : List ℕ) → RefusesBy fileNumbers (meshInto coords corners s)
 unfolding meshInto
-file-refuses coords corners s = search (refuses-unless, refuses-then, mesh-refuses)
+file-refuses coords corners s = search (refuses-unless, refuses-then, mesh-refuses fileNumbers tt tt tt tt tt tt)
+
+report-refuses : (room : ℕ) (s : List ℕ) → RefusesBy reportNumbers (reportInto room s)
+unfolding reportInto reportOf gridNumbers
+report-refuses room s =
+    refuses-then reportNumbers (reportOf s) (roomFor room)
+    (refuses-then reportNumbers (meshOf s) _ (mesh-refuses reportNumbers tt tt tt tt tt tt s) (λ m.
+    refuses-then reportNumbers (gridNumbers (m .coords)) _
+    (refuses-each _ reportNumbers (λ word. grid-refuses reportNumbers (ofBits binary64 word) tt) (m .coords)) (λ numbers. tt)))
+    (λ r. search refuses-unless)
 
 written-refuses : (nodes cells : List ℕ) → RefusesBy writeNumbers (Write.fileFor nodes cells)
 unfolding Write.fileFor
@@ -86,5 +100,6 @@ refusals-numbered =
       ofDescendant = descended-refuses;
       ofFile = file-refuses;
       ofWriter = writer-refuses;
+      ofReport = report-refuses;
       ofRefinement = refined-refuses;
     }

@@ -18,6 +18,7 @@ use Rattle.proposals.specs.declared.Proposal.{Proposal}
 use Rattle.descendant.specs.Place.{descended}
 use Rattle.hxm.specs.Reads.{meshInto}
 use Rattle.hxm_write.specs.Writes.{fileInto}
+use Rattle.volume_report.specs.Report.{reportInto}
 use Rattle.refine.specs.Refine.{refined}
 
 -- "File: 13 if under 13 bytes, 11, 12, 7, 13, then cell by cell 9, 10, last 8"
@@ -27,6 +28,10 @@ fileNumbers = 13 ∷ 11 ∷ 12 ∷ 7 ∷ 9 ∷ 10 ∷ 8 ∷ []
 -- document 02, 1/12: "Refusals: 7 .., 8 .., then cell by cell 9, 10, last 8"
 abbrev pub writeNumbers : List ℕ
 writeNumbers = 7 ∷ 8 ∷ 9 ∷ 10 ∷ []
+
+-- document 02, 3/12: "Refusals: those of the reader but its 8 first, then 15 ..; last 8"
+abbrev pub reportNumbers : List ℕ
+reportNumbers = 13 ∷ 11 ∷ 12 ∷ 7 ∷ 9 ∷ 10 ∷ 15 ∷ 8 ∷ []
 
 -- "Refinement: 7 .., 8 .., then cell by cell 9 before 10", and document 02, 2/12: "14, twisted face, after all cells have passed 9 and 10"
 abbrev pub refineNumbers : List ℕ
@@ -48,4 +53,5 @@ pub record RefusalsNumbered : Type 0 where
   pub ofDescendant : (path : List ℕ) (k : ℕ) → RefusesBy (7 ∷ 9 ∷ []) (descended path k)
   pub ofFile : (coords corners : ℕ) (s : List ℕ) → RefusesBy fileNumbers (meshInto coords corners s)
   pub ofWriter : (room : ℕ) (nodes cells : List ℕ) → RefusesBy writeNumbers (fileInto room nodes cells)
+  pub ofReport : (room : ℕ) (s : List ℕ) → RefusesBy reportNumbers (reportInto room s)
   pub ofRefinement : (n : ℕ) (cells : List ℕ) (room : ℕ) → RefusesBy refineNumbers (refined n cells room)
