@@ -6,7 +6,7 @@ and mat3_col_major.rs.
 """
 
 import struct
-from functools import cached_property
+from functools import cached_property, lru_cache
 
 INFINITY = float("inf")
 LARGEST_FINITE = float.fromhex("0x1.fffffffffffffp+1023")
@@ -20,6 +20,7 @@ FACE2NODE = [tuple(IDX2NODE[4 * f : 4 * f + 4]) for f in range(6)]
 
 MOST_NODES, MOST_CELLS, MOST_PROPOSALS, DEEPEST = 1024, 128, 256, 20
 MOST_COORDINATES, MOST_CELL_NUMBERS = 3072, 1024  # document 02, 1/12
+MOST_GRID = 1024  # document 02, 3/12
 
 # Demand 3 on a case that passes 3, 4 and 5.
 NO_DEMAND, MUST_ACCEPT, MUST_REFUSE, EITHER = 0, 1, 2, 3
@@ -440,3 +441,88 @@ def hxm_write(coordinates, numbers, room):
     for number in numbers:
         data += little(number, 4)
     return 0, (length, bytes(data))
+
+
+# ---- the volume report: document 02, 3/12 ----
+
+
+def edges_along(axis):
+    """The four edges along an axis, as lower and upper end: by where they stand on the other two, (0,0), (0,1), (1,0), (1,1)."""
+    corner = {signs: k for k, signs in enumerate(HEX_SIGN)}
+    at = lambda sign, others: corner[(*others[:axis], sign, *others[axis:])]
+    return [(at(-1, (b, c)), at(1, (b, c))) for b in (-1, 1) for c in (-1, 1)]
+
+
+EDGES_ALONG = [edges_along(axis) for axis in range(3)]
+
+# Simpson's rule on [0, 1]: the values at 0, 1/2 and 1 count 1, 4 and 1 times, over 6. It is exact up to degree 3, and on each axis the Jacobian's
+# determinant has degree 2. On three axes the denominators are 216.
+SIMPSON = (1, 4, 1)
+POINTS = [
+    (SIMPSON[i] * SIMPSON[j] * SIMPSON[k], 3 * j + k, 3 * i + k, 3 * i + j)
+    for i in range(3)
+    for j in range(3)
+    for k in range(3)
+]
+
+
+def slopes(values, axis):
+    """Four times the slope along an axis of the map through eight values: at i / 2 and j / 2 on the other two, at 3 i + j."""
+    a, b, c, d = [values[upper] - values[lower] for lower, upper in EDGES_ALONG[axis]]
+    found = []
+    for e, f in ((2 * a, 2 * b), (a + c, b + d), (2 * c, 2 * d)):
+        found += (2 * e, e + f, 2 * f)
+    return found
+
+
+@lru_cache(maxsize=4096)
+def volume216(corners):
+    """216 times the signed volume of a cell with these corners, 24 whole numbers, corner by corner."""
+    axes = corners[0::3], corners[1::3], corners[2::3]
+    (xr, yr, zr), (xs, ys, zs), (xt, yt, zt) = [[slopes(values, axis) for values in axes] for axis in range(3)]
+    total = 0
+    for weight, r, s, t in POINTS:
+        total += weight * (
+            xr[r] * (ys[s] * zt[t] - yt[t] * zs[s])
+            + yr[r] * (zs[s] * xt[t] - zt[t] * xs[s])
+            + zr[r] * (xs[s] * yt[t] - xt[t] * ys[s])
+        )
+    whole, rest = divmod(total, 4**3)  # each slope is four times itself
+    if rest != 0:
+        raise AssertionError(f"216 times the volume is not whole: {corners}")
+    return whole
+
+
+def grid_numbers(patterns):
+    """The whole numbers that the patterns are floats of, or None where one is none or is beyond the grid."""
+    values = struct.unpack(f"<{len(patterns)}d", struct.pack(f"<{len(patterns)}Q", *patterns))
+    if all(value.is_integer() and abs(value) <= MOST_GRID for value in values):
+        return [int(value) for value in values]
+    return None
+
+
+def volume_report(data, room):
+    """Outputs: the total, the number of cells, the first cell that is not above zero or else that number, and a volume for each cell."""
+    number, mesh = hxm_read(data, MOST_COORDINATES, MOST_CELL_NUMBERS)
+    if number != 0:
+        return number, None
+    _, cells, patterns, numbers = mesh
+    grid = grid_numbers(patterns)
+    if grid is None:
+        return 15, None
+    if room < cells:
+        return 8, None
+    volumes = [volume216(tuple(v for node in cell for v in grid[3 * node : 3 * node + 3])) for cell in cells_of(numbers)]
+    first = next((k for k, volume in enumerate(volumes) if volume <= 0), cells)
+    return 0, (sum(volumes), cells, first, volumes)
+
+
+def volume_text(data):
+    """What the program hexvol prints for a file."""
+    number, report = volume_report(data, MOST_CELLS)
+    if number != 0:
+        return f"refused {number}\n"
+    total, cells, first, volumes = report
+    lines = [f"{k} {volume}" for k, volume in enumerate(volumes)]
+    lines += [f"total {total}", f"first {first}" if first < cells else "first none"]
+    return "".join(f"{line}\n" for line in lines)

@@ -5,6 +5,7 @@ import struct
 from collections import Counter
 
 from answers import HEX_SIGN, Cell, Place, by_nodes, by_sides, check, descendant, hxm_read, hxm_write, locate_checked, refine, refine_01
+from answers import volume_report, volume_text
 
 CHILDREN = """
 0 8 20 11 16 21 26 24
@@ -30,6 +31,7 @@ def hold():
     hold_writing()
     hold_rings()
     hold_twisted()
+    hold_volumes()
 
 
 def hold_scope():
@@ -143,3 +145,53 @@ def hold_twisted():
     number, (length, data) = hxm_write([0] * 36, cell + twisted, 365)
     assert (number, length) == (0, 365)
     assert hxm_read(data, 36, 16) == (0, (12, 2, (0,) * 36, (*cell, *twisted)))
+
+
+def hold_volumes():
+    """Document 02, 3/12."""
+    cell, mirror = list(range(8)), [0, 3, 2, 1, 4, 7, 6, 5]
+
+    def solid(corners, *cells):
+        """A file with a node for each corner, and these cells."""
+        floats, numbers = sum(corners, ()), sum(cells, [])
+        return b"HXM" + struct.pack(f"<HII{len(floats)}d{len(numbers)}I", 1, len(corners), len(cells), *floats, *numbers)
+
+    box = lambda a, b, c: [(a * (x > 0), b * (y > 0), c * (z > 0)) for x, y, z in HEX_SIGN]
+    volumes = lambda corners, *cells: volume_report(solid(corners, *cells), len(cells))
+    text = lambda corners, *cells: volume_text(solid(corners, *cells))
+    cube, unit, flat = box(2, 2, 2), box(1, 1, 1), box(2, 2, 0)
+    assert len(solid(cube, cell)) == 237
+    assert text(cube, cell) == "0 1728\ntotal 1728\nfirst none\n"
+    assert volumes(cube, cell) == (0, (1728, 1, 1, [1728]))
+    assert volumes(box(1, 2, 3), cell) == (0, (1296, 1, 1, [1296]))
+    assert volumes(unit[:6] + unit[:1] + unit[7:], cell) == (0, (54, 1, 1, [54]))
+    block = [(0, 0, 0), (4, 0, 0), (5, 3, 0), (0, 3, 1), (0, 0, 6), (4, 1, 6), (5, 4, 7), (0, 3, 6)]
+    assert volumes(block, cell) == (0, (16920, 1, 1, [16920])) and 3 * 16920 == 216 * (3 * 78 + 1)
+    assert text(cube, cell, mirror) == "0 1728\n1 -1728\ntotal 0\nfirst 1\n"
+    assert volumes(cube, cell, mirror) == (0, (0, 2, 1, [1728, -1728]))
+    assert text(flat, cell) == "0 0\ntotal 0\nfirst 0\n"
+    assert text([]) == "total 0\nfirst none\n" and volumes([]) == (0, (0, 0, 0, []))
+    assert text([(0.5, 0.0, 0.0)]) == "refused 15\n"
+
+    # the largest
+    large = [(1024 * x, 1024 * y, 1024 * z) for x, y, z in HEX_SIGN]
+    negated = [(-x, -y, -z) for x, y, z in large]
+    assert volumes(large, cell) == (0, (1855425871872, 1, 1, [1855425871872]))
+    assert volumes(large, *[cell] * 128) == (0, (237494511599616, 128, 128, [1855425871872] * 128))
+    assert volumes(negated, *[cell] * 128) == (0, (-237494511599616, 128, 0, [-1855425871872] * 128))
+
+    # words
+    worded = lambda word: volume_report(hxm_write([word] + [0] * 23, cell, 237)[1][1], 1)[0]
+    assert [worded(word) for word in (0x4090000000000000, 0x8000000000000000)] == [0, 0]
+    bad = 0x4090000000000001, 0x4090040000000000, 0x3FE0000000000000, 1, 0x7FF0000000000000, 0x7FF0000000000001
+    assert [worded(word) for word in bad] == [15] * 6
+
+    # what meets
+    half = [(0.5, 0.0, 0.0)] + cube[1:]
+    assert volumes(half, cell, [*range(7), 8]) == (9, None)
+    assert volumes(half, cell, [*range(7), 0]) == (10, None)
+    assert volume_report(solid(half, cell), 0) == (15, None)
+    assert volume_report(solid(cube, cell), 0) == (8, None)
+    assert volume_report(solid(cube, cell), 9) == volumes(cube, cell)
+    twisted = [1, 8, 9, 5, 6, 11, 10, 2]
+    assert volumes(cube + block[:4], cell, twisted)[0] == 0
