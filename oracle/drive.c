@@ -148,7 +148,7 @@ static void *has_to(size_t buffer) {
 
 /* ---- the counts of a function ---- */
 
-enum { FUNCTIONS = 29, NUMBERS = 15, SHOWN = 3 };
+enum { FUNCTIONS = 30, NUMBERS = 16, SHOWN = 3 };
 enum { MUST_ACCEPT = 1, MUST_REFUSE = 2, EITHER = 3 };
 
 static struct function {
@@ -186,6 +186,7 @@ static struct function {
     {.name = "isn_descendant"},
     {.name = "isn_hxm_read"},
     {.name = "isn_hxm_write"},
+    {.name = "isn_volume_report"},
 };
 
 static void say(const struct function *f, const char *form, ...) {
@@ -606,6 +607,27 @@ static int call_hxm_write(const struct function *f, uint32_t number, uint32_t *a
     return differs;
 }
 
+static int call_volume_report(const struct function *f, uint32_t number, uint32_t *answered, int null) {
+    size_t length = take32(), room = take32();
+    uint8_t *bytes = lend("bytes", 1, length);
+    int64_t *volumes = lend("volumes", 8, room), *total = lend("total", 8, 1);
+    uint32_t *counts = lend("counts", 4, 2);
+    if (length != 0)
+        memcpy(bytes, take(length), length);
+    settle();
+    *answered = isn_volume_report(list(bytes, length, null), length, list(volumes, room, null), room, total, counts);
+    if (number == 0) {
+        uint32_t had[2];
+        take_words64(has_to(2), 1);
+        take_words32(had, 2);
+        memcpy(has_to(3), had, sizeof had);
+        if (had[0] > room)
+            broken("an answer that does not fit");
+        take_words64(has_to(1), had[0]);
+    }
+    return compare(f, *answered, number);
+}
+
 static int call(int function, uint32_t number, uint32_t *answered, int null) {
     const struct function *f = &functions[function];
     used = 0;
@@ -625,6 +647,8 @@ static int call(int function, uint32_t number, uint32_t *answered, int null) {
         return call_hxm_read(f, number, answered, null);
     case 29:
         return call_hxm_write(f, number, answered, null);
+    case 30:
+        return call_volume_report(f, number, answered, null);
     default:
         *answered = call_carried(function, null);
         if (number == 0)
