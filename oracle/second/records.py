@@ -8,7 +8,7 @@ import struct
 
 import answers
 
-CHECK, LOCATE_CHECKED, CHECK_PROPOSALS, REFINE, DESCENDANT, HXM_READ, HXM_WRITE = range(23, 30)
+CHECK, LOCATE_CHECKED, CHECK_PROPOSALS, REFINE, DESCENDANT, HXM_READ, HXM_WRITE, VOLUME_REPORT = range(23, 31)
 NAMES = {
     "check": CHECK,
     "locate_checked": LOCATE_CHECKED,
@@ -17,6 +17,7 @@ NAMES = {
     "descendant": DESCENDANT,
     "hxm_read": HXM_READ,
     "hxm_write": HXM_WRITE,
+    "volume_report": VOLUME_REPORT,
 }
 
 STREAM_MARK = b"ISN2ND1\n"
@@ -27,6 +28,8 @@ MOST_INPUT_WORDS, MOST_OUTPUT_WORDS = 400, 600
 MOST_MESH_NUMBERS, MOST_MESH_LENGTH, MOST_MESH_ROOM = 252, 1040, 8256
 # A writing is stored where the replay has room for it, and shows each byte of its file and one behind.
 MOST_WRITE_WORDS, MOST_WRITE_ROOM, MOST_WRITTEN = 255, 28800, 400
+# A report is stored where the replay has room for it: no file of so many words has more than 56 cells.
+MOST_REPORT_WORDS, MOST_REPORT_ROOM = 255, 192
 NAN_WORD = 0x7FF8000000000000
 
 
@@ -45,6 +48,7 @@ def answer(function, arguments):
         DESCENDANT: answers.descendant,
         HXM_READ: answers.hxm_read,
         HXM_WRITE: answers.hxm_write,
+        VOLUME_REPORT: answers.volume_report,
     }[function]
     return *call(*arguments), answers.NO_DEMAND
 
@@ -62,6 +66,10 @@ def words32(values):
 
 def words64(values):
     return struct.pack(f"<{len(values)}Q", *values)
+
+
+def signed64(values):
+    return struct.pack(f"<{len(values)}q", *values)
 
 
 def stream_record(function, arguments, answered):
@@ -100,12 +108,18 @@ def stream_record(function, arguments, answered):
         if good:
             nodes, cells, patterns, numbers = outputs
             parts += [words32([nodes, cells]), words64(patterns), words32(numbers)]
-    else:
+    elif function == HXM_WRITE:
         patterns, numbers, room = arguments
         parts = [words32([len(patterns), len(numbers), room]), words64(patterns), words32(numbers)]
         if good:
             length, data = outputs
             parts += [words32([length]), data]
+    else:
+        data, room = arguments
+        parts = [words32([len(data), room]), data]
+        if good:
+            total, cells, first, volumes = outputs
+            parts += [signed64([total]), words32([cells, first]), signed64(volumes)]
     body = b"".join(parts)
     return struct.pack("<BBBBI", function, number, demand, 0, len(body)) + body
 
@@ -156,6 +170,14 @@ def sample_words(function, arguments, answered):
         data, node_room, cell_room = arguments
         ins = [len(data), *data, node_room, cell_room]
         outs = [outputs[0], outputs[1], *outputs[2], *outputs[3]] if number == 0 else []
+    elif function == VOLUME_REPORT:
+        data, room = arguments
+        ins = [len(data), room, *as_words(data)]
+        if number == 0:
+            total, cells, first, volumes = outputs
+            outs = [*as_words(signed64([total])), cells, first, *as_words(signed64(volumes))]
+        if len(ins) > MOST_REPORT_WORDS or room > MOST_REPORT_ROOM:
+            return None
     else:
         patterns, numbers, room = arguments
         words, listed = without_zeros(patterns), without_zeros(numbers)
@@ -166,6 +188,12 @@ def sample_words(function, arguments, answered):
     if len(ins) > MOST_INPUT_WORDS or len(outs) > MOST_OUTPUT_WORDS:
         return None
     return ins, outs
+
+
+def as_words(data):
+    """Bytes as words of eight, with zeros behind."""
+    data += bytes(-len(data) % 8)
+    return struct.unpack(f"<{len(data) // 8}Q", data)
 
 
 def with_list(before, elements, after, number):

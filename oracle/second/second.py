@@ -20,6 +20,7 @@ import cells
 import examples
 import meshes
 import records
+import volumes
 
 BOUNDARY = {
     "check": cells.boundary_check,
@@ -29,6 +30,7 @@ BOUNDARY = {
     "descendant": meshes.boundary_descendant,
     "hxm_read": meshes.boundary_files,
     "hxm_write": meshes.boundary_writes,
+    "volume_report": volumes.boundary_reports,
 }
 RANDOM = {
     "check": cells.random_check,
@@ -38,13 +40,21 @@ RANDOM = {
     "descendant": meshes.random_descendant,
     "hxm_read": meshes.random_files,
     "hxm_write": meshes.random_writes,
+    "volume_report": volumes.random_reports,
 }
 
 SAMPLE_SEED = "sample 1"
 # How many cases of a function a sample takes for each tag and number, and in all; how many are looked through.
-SAMPLE_EACH = {"check": 6, "locate_checked": 4, "check_proposals": 8, "refine": 8, "descendant": 6, "hxm_read": 4, "hxm_write": 3}
-SAMPLE_MOST = {"check": 215, "locate_checked": 195, "check_proposals": 45, "refine": 120, "descendant": 35, "hxm_read": 80, "hxm_write": 80}
-SAMPLE_FROM = {"check": 9000, "locate_checked": 6000, "check_proposals": 2000, "refine": 8000, "descendant": 12000, "hxm_read": 20000, "hxm_write": 8000}
+SAMPLE = {
+    "check": (6, 215, 9000),
+    "locate_checked": (4, 195, 6000),
+    "check_proposals": (8, 45, 2000),
+    "refine": (8, 120, 8000),
+    "descendant": (6, 35, 12000),
+    "hxm_read": (4, 80, 20000),
+    "hxm_write": (3, 80, 8000),
+    "volume_report": (4, 160, 20000),
+}
 
 
 def cases(name, count, seed):
@@ -59,9 +69,10 @@ def answered(case, held):
     """The answer. Where the tag promises a number, it has to be that one; what is held of it is counted."""
     function, tag, arguments = case
     answer = records.answer(function, arguments)
-    if tag in meshes.PROMISED:
-        if answer[0] != meshes.PROMISED[tag]:
-            raise AssertionError(f"a case that is {tag} answers {answer[0]}: {arguments}")
+    promised = volumes.PROMISED if function == records.VOLUME_REPORT else meshes.PROMISED
+    if tag in promised:
+        if answer[0] != promised[tag]:
+            raise AssertionError(f"a case that is {tag} answers {answer[0]}: {arguments!r:.2000}")
         held["promised"] += 1
     if function == records.REFINE:
         held[beside_document_01(arguments, answer[:2])] += 1
@@ -90,7 +101,8 @@ def stream(names, count, seed, out):
     out.write(records.stream_end(written))
     if "refine" in names:
         said = f"{held['numbered']} numbered and {held['refused']} refused as by document 01's rule, {held['twisted']} twisted"
-        print(f"second.py: meshes to refine: {said}; {held['promised']} cases as their tags promise", file=sys.stderr)
+        print(f"second.py: meshes to refine: {said}", file=sys.stderr)
+    print(f"second.py: {held['promised']} cases as their tags promise", file=sys.stderr)
 
 
 def sample(names, path):
@@ -102,9 +114,10 @@ def sample(names, path):
 
 def sample_of(name):
     """The examples, and of each tag and number a few cases, spread over all that there are."""
+    each, most, count = SAMPLE[name]
     rng = random.Random(f"{SAMPLE_SEED} {name}")
     kinds = {}
-    for position, case in enumerate(cases(name, SAMPLE_FROM[name], SAMPLE_SEED)):
+    for position, case in enumerate(cases(name, count, SAMPLE_SEED)):
         function, tag, arguments = case
         answer = answered(case, Counter())
         words = records.sample_words(function, arguments, answer)
@@ -113,11 +126,11 @@ def sample_of(name):
             kinds.setdefault((tag, number), []).append((position, records.sample_record(function, number, words)))
     taken = []
     for (tag, _), found in kinds.items():
-        few = min(len(found), SAMPLE_EACH[name])
+        few = min(len(found), each)
         taken += [(0, *f) for f in found] if tag == "example" else [(1 + i, *f) for i, f in enumerate(rng.sample(found, few))]
     # one of every kind before a second of any
     taken.sort(key=lambda t: t[0])
-    kept = taken[: SAMPLE_MOST[name]]
+    kept = taken[:most]
     return [record for _, _, record in sorted(kept, key=lambda t: t[1])]
 
 
