@@ -5,13 +5,13 @@
     python3 oracle/second/for_replay.py RUST SECOND crates/replay/stdin crates/replay/stdout
 
 A record there has a header of four bytes: function, input words, outcome, output words. First come the records that are compared: those of the Rust,
-and the second program's of check and locate_checked. Behind four zero bytes come the meshes, paths, files and lists to write, whose answers are
-printed.
+and the second program's of check and locate_checked. Behind four zero bytes come the meshes, paths, files, lists to write and files to report, whose
+answers are printed. Of a report every number is printed as the 64 bits that it has, without a sign.
 """
 import struct
 import sys
 
-CHECK, LOCATE_CHECKED, REFINE, DESCENDANT, HXM_READ, HXM_WRITE = 23, 24, 26, 27, 28, 29
+CHECK, LOCATE_CHECKED, REFINE, DESCENDANT, HXM_READ, HXM_WRITE, VOLUME_REPORT = 23, 24, 26, 27, 28, 29, 30
 OLD = 7
 SHOWN, BYTES_SHOWN = 60, 420
 
@@ -48,7 +48,11 @@ def hxm_write(words, answers):
     return words, [], answers[:1], left(answers[1:], words[2], BYTES_SHOWN)
 
 
-TOLD = {REFINE: refine, DESCENDANT: descendant, HXM_READ: hxm_read, HXM_WRITE: hxm_write}
+def volume_report(words, answers):
+    return words, [], answers[:3], left(answers[3:], words[1], SHOWN)
+
+
+TOLD = {REFINE: refine, DESCENDANT: descendant, HXM_READ: hxm_read, HXM_WRITE: hxm_write, VOLUME_REPORT: volume_report}
 
 
 def record(function, outcome, inputs, outputs):
