@@ -16,7 +16,7 @@
 #include <stddef.h>
 #include <stdint.h>
 
-#define ISN_VERSION "0.3.0"
+#define ISN_VERSION "0.4.0"
 
 /* Limits. Nothing allocates, so each is fixed; beyond one the answer is ISN_REFUSED_LIMIT. */
 #define ISN_MAX_NODES 1024    /* nodes in a mesh */
@@ -31,6 +31,9 @@
 /* The length of the longest mesh file, so that isn_hxm_write has room for every mesh: 13 bytes, 24 for each of 1,024 nodes and 32 for
  * each of 128 cells. */
 #define ISN_LONGEST_FILE 28685
+
+/* The largest size of a coordinate that isn_volume_report takes; beyond it the answer is ISN_REFUSED_OFF_GRID. */
+#define ISN_GRID_LIMIT 1024
 
 #ifdef __cplusplus
 extern "C" {
@@ -52,7 +55,8 @@ enum isn_answer {
     ISN_REFUSED_MARK = 11,
     ISN_REFUSED_VERSION = 12,
     ISN_REFUSED_FILE_LENGTH = 13,
-    ISN_REFUSED_TWISTED = 14
+    ISN_REFUSED_TWISTED = 14,
+    ISN_REFUSED_OFF_GRID = 15
 };
 
 /* A returned number in words, never null. docs/REFUSALS.md adds how to mend the input; `make words` holds it and the Rust crate to
@@ -90,6 +94,8 @@ static inline const char *isn_refusal_text(uint32_t number) {
         return "the file's length is wrong: under 13 bytes, or not 13 + 24 a node + 32 a cell";
     case ISN_REFUSED_TWISTED:
         return "a face is twisted: two faces of the mesh have the same four nodes in different rings";
+    case ISN_REFUSED_OFF_GRID:
+        return "a node coordinate is not a whole number of size at most 1,024; unused nodes count too";
     default:
         return "no refusal of this version has this number";
     }
@@ -132,7 +138,8 @@ uint32_t isn_hex_dndx(const double corners[24], const double pco[3], double shap
 uint32_t isn_hex_grad_shapefunc(const double corners[24], const double *points, size_t points_len, uint32_t i1, uint32_t i2,
                                 uint32_t i3, double dndx[24], double detwei[1]);
 
-/* out = the volume by the points of the list (place, weight). Refusals: 8 the list is not whole; 7 it has not 1 to 16 points. */
+/* out = the volume by the points of the list (place, weight), rounded; isn_volume_report has exact ones. Refusals: 8 the list is not
+ * whole; 7 it has not 1 to 16 points. */
 uint32_t isn_hex_volume(const double corners[24], const double *points, size_t points_len, double out[1]);
 
 /* at = the place whose image is the origin, by twenty Newton steps. Refusals: 1 a determinant is zero; 2 the origin is outside. */
@@ -209,6 +216,13 @@ uint32_t isn_hxm_read(const uint8_t *bytes, size_t bytes_len, uint64_t *nodes, s
  * list not whole cells; then cell by cell 9 a node number is not below n, 10 a node stands twice in one cell; 8 out is shorter than the file. */
 uint32_t isn_hxm_write(const uint64_t *nodes, size_t nodes_len, const uint32_t *cells, size_t cells_len, uint8_t *out, size_t out_len,
                        uint32_t length[1]);
+
+/* Reports the exact volumes of a mesh file, HXM version 1, with every node on the grid: volumes = for each cell 216 times its signed volume, which is
+ * the integral over the unit cube of the Jacobian's determinant of the trilinear map through the cell's corners, and 216 times it is a whole number;
+ * total = their sum; counts = the number of cells, and the first cell, from 0, whose volume is not above zero, or the number of cells where there is
+ * none; the rest of volumes stays as it was. Minus zero counts as 0, and faces are not looked at. Refusals: those of isn_hxm_read but its 8, in its
+ * order; 15 a coordinate of some node, used or not, is not a whole number of size at most 1,024; 8 volumes holds fewer numbers than there are cells. */
+uint32_t isn_volume_report(const uint8_t *bytes, size_t bytes_len, int64_t *volumes, size_t volumes_len, int64_t total[1], uint32_t counts[2]);
 
 /* Prism. A place is r >= 0, s >= 0, r + s <= 1 in the triangle, t in [0,1] upward. */
 

@@ -2,6 +2,7 @@
  * the archive answers there and one step off. */
 #include <inttypes.h>
 #include <stdio.h>
+#include <string.h>
 #include "isnemgul.h"
 
 static void word(uint32_t number) {
@@ -10,6 +11,18 @@ static void word(uint32_t number) {
 
 static void size(const char *name, int value, uint32_t there, uint32_t off) {
     printf("%s %d %" PRIu32 " %" PRIu32 "\n", name, value, there, off);
+}
+
+/* What a volume report answers of a mesh with one node, at (x, 0, 0). */
+static uint32_t reported(double x) {
+    const double place[3] = {x, 0, 0};
+    uint64_t node[3];
+    uint8_t file[37];
+    uint32_t length, counts[2];
+    int64_t total;
+    memcpy(node, place, sizeof node);
+    isn_hxm_write(node, 3, NULL, 0, file, sizeof file, &length);
+    return isn_volume_report(file, sizeof file, NULL, 0, &total, counts);
 }
 
 /* Lists of zeros do. A missing output is refused too, but only by a list that is within its limit. */
@@ -40,5 +53,6 @@ int main(void) {
          isn_refine(8, cells, 8, out, ISN_REFINED_NUMBERS - 1, &n));
     size("ISN_LONGEST_FILE", ISN_LONGEST_FILE, isn_hxm_write(words, 3 * ISN_MAX_NODES, cells, 8 * ISN_MAX_CELLS, file, ISN_LONGEST_FILE, &n),
          isn_hxm_write(words, 3 * ISN_MAX_NODES, cells, 8 * ISN_MAX_CELLS, file, ISN_LONGEST_FILE - 1, &n));
+    size("ISN_GRID_LIMIT", ISN_GRID_LIMIT, reported(ISN_GRID_LIMIT), reported(ISN_GRID_LIMIT + 1));
     return 0;
 }

@@ -60,6 +60,7 @@ refusals! {
     Version = 12, "the file's version is not 1";
     FileLength = 13, "the file's length is wrong: under 13 bytes, or not 13 + 24 a node + 32 a cell";
     Twisted = 14, "a face is twisted: two faces of the mesh have the same four nodes in different rings";
+    OffGrid = 15, "a node coordinate is not a whole number of size at most 1,024; unused nodes count too";
 }
 
 impl Refusal {
