@@ -140,4 +140,12 @@ unsafe extern "C" {
         out_len: usize,
         length: &mut u32,
     ) -> u32;
+    pub fn isn_volume_report(
+        bytes: *const u8,
+        bytes_len: usize,
+        volumes: *mut i64,
+        volumes_len: usize,
+        total: &mut i64,
+        counts: &mut [u32; 2],
+    ) -> u32;
 }

@@ -131,7 +131,8 @@ pub fn grad_shapefunc(
     })
 }
 
-/// The volume, by quadrature points of a line: place, weight, flat.
+/// The volume, by quadrature points of a line: place, weight, flat. It is rounded:
+/// [`mesh::volume_report`](crate::mesh::volume_report) has exact ones.
 ///
 /// ```
 /// use isnemgul::{Refusal, hex};

@@ -12,6 +12,17 @@ pub struct Counts {
     pub cells: u32,
 }
 
+/// What [`volume_report`] answers beside the volume of each cell.
+#[derive(Clone, Copy, Debug, PartialEq, Eq)]
+pub struct VolumeReport {
+    /// 216 times the volume of the mesh, the sum over its cells.
+    pub total: i64,
+    /// How many cells there are.
+    pub cells: u32,
+    /// The first cell, from 0, whose volume is not above zero.
+    pub first: Option<u32>,
+}
+
 /// Cuts every cell of a mesh of `n` nodes in eight: writes 64 node numbers a cell, eight for each
 /// child, and answers the next free number. Cells that share an edge or a face share the number of
 /// its middle. Two faces are one where their rings, the four nodes as they run round the face, agree
@@ -125,5 +136,43 @@ pub fn write(nodes: &[u64], cells: &[u32], out: &mut [u8]) -> Result<u32, Refusa
     // SAFETY: each list is one slice, lent for the call, and `out` to it alone.
     answer(0, |length| unsafe {
         isn_hxm_write(words.0, words.1, numbers.0, numbers.1, file, room, length)
+    })
+}
+
+/// Writes 216 times the exact signed volume of each cell of a mesh file whose nodes are all on the
+/// grid, and answers their total and the first cell that is not above zero. The volume is the
+/// integral over the unit cube of the Jacobian's determinant of the trilinear map through the
+/// corners; 216 times it is a whole number, so that no sum depends on the order of the cells.
+/// What `volumes` holds behind the cells stays. [`hex::volume`](crate::hex::volume) is rounded.
+///
+/// ```
+/// use isnemgul::{Refusal, hex, mesh};
+/// // A cube of side 2, and one of side 1, about the origin.
+/// let [two, one] = [1., 0.5].map(|half| hex::SIGNS.map(|p| p.map(|x| (half * x).to_bits())));
+/// let (mut file, mut volumes) = ([0; 237], [0]);
+/// mesh::write(two.as_flattened(), &[0, 1, 2, 3, 4, 5, 6, 7], &mut file)?;
+/// let report = mesh::volume_report(&file, &mut volumes)?;
+/// assert_eq!((volumes, report.total, report.first), ([216 * 8], 216 * 8, None));
+///
+/// mesh::write(one.as_flattened(), &[0, 1, 2, 3, 4, 5, 6, 7], &mut file)?;
+/// assert_eq!(mesh::volume_report(&file, &mut volumes), Err(Refusal::OffGrid));
+/// # Ok::<(), Refusal>(())
+/// ```
+///
+/// # Errors
+///
+/// Those of [`read`] but its last, in its order; then [`OffGrid`](Refusal::OffGrid) a coordinate of
+/// some node, used or not, is not a whole number of size at most 1,024, last
+/// [`Length`](Refusal::Length) `volumes` has fewer numbers than there are cells.
+pub fn volume_report(bytes: &[u8], volumes: &mut [i64]) -> Result<VolumeReport, Refusal> {
+    let (file, length) = (bytes.as_ptr(), bytes.len());
+    let (numbers, room) = (volumes.as_mut_ptr(), volumes.len());
+    // SAFETY: each list is one slice, lent for the call, and `volumes` to it alone.
+    let report = answer((0, [0; 2]), |(total, counts)| unsafe {
+        isn_volume_report(file, length, numbers, room, total, counts)
+    });
+    report.map(|(total, [cells, first])| {
+        let first = (first < cells).then_some(first);
+        VolumeReport { total, cells, first }
     })
 }

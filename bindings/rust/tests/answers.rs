@@ -1,7 +1,7 @@
 //! What each function answers, held against a plain rule.
 
 use isnemgul::hex::{self, Proposal, SIGNS};
-use isnemgul::mesh::{self, Counts};
+use isnemgul::mesh::{self, Counts, VolumeReport};
 use isnemgul::{Point, mat3, prism};
 
 /// A skewed block around the origin, and the place of the origin in it.
@@ -176,4 +176,100 @@ fn small_files() {
     let head = b"HXM\x01\0\x01\0\0\0\0\0\0\0";
     let node = b"\x01\0\0\0\0\0\xf0\x7f\0\0\0\0\0\0\0\x80\0\0\0\0\0\0\0\0";
     assert_eq!(out[..], [&head[..], node, &[77]].concat());
+}
+
+/// The volumes of cells that share no node, by the file of them. A number behind the list stays.
+fn reported(cells: &[hex::Corners]) -> (Vec<i64>, VolumeReport) {
+    let nodes: Vec<u64> = cells.as_flattened().as_flattened().iter().map(|x| x.to_bits()).collect();
+    let numbers: Vec<u32> = (0..8 * cells.len() as u32).collect();
+    let mut file = vec![0; 13 + 8 * nodes.len() + 4 * numbers.len()];
+    mesh::write(&nodes, &numbers, &mut file).unwrap();
+    let mut volumes = vec![77; cells.len() + 1];
+    let report = mesh::volume_report(&file, &mut volumes).unwrap();
+    assert_eq!(volumes.pop(), Some(77));
+    (volumes, report)
+}
+
+/// A box at any place, a corner drawn onto another, a block with slanted sides; a mirrored cell and
+/// a flat one are not above zero. The total is the same whatever the order.
+#[test]
+fn exact_volumes() {
+    let cube = SIGNS.map(|corner| corner.map(|x| x + 1.));
+    let brick = SIGNS.map(|[x, y, z]| [(x + 1.) / 2. - 7., y + 1., (3. * z + 3.) / 2. + 100.]);
+    let mut drawn = SIGNS.map(|corner| corner.map(|x| (x + 1.) / 2.));
+    drawn[6] = drawn[0];
+    let block = [
+        [0., 0., 0.],
+        [4., 0., 0.],
+        [5., 3., 0.],
+        [0., 3., 1.],
+        [0., 0., 6.],
+        [4., 1., 6.],
+        [5., 4., 7.],
+        [0., 3., 6.],
+    ];
+    let mirrored = [0, 3, 2, 1, 4, 7, 6, 5].map(|k| cube[k]);
+    let flat = cube.map(|[x, y, _]| [x, y, -0.]);
+    let mut cells = vec![cube, brick, drawn, block, mirrored, flat];
+    let mut wanted = vec![216 * 8, 216 * 6, 54, 16_920, -216 * 8, 0];
+    for first in [4, 3, 2, 1, 0, 0] {
+        let (volumes, report) = reported(&cells);
+        assert_eq!(volumes, wanted);
+        assert_eq!(report, VolumeReport { total: 18_270, cells: 6, first: Some(first) });
+        cells.rotate_left(1);
+        wanted.rotate_left(1);
+    }
+    let (_, report) = reported(&[cube, brick, drawn, block]);
+    assert_eq!(report, VolumeReport { total: 19_998, cells: 4, first: None });
+    assert_eq!(reported(&[]), (vec![], VolumeReport { total: 0, cells: 0, first: None }));
+}
+
+/// Two points a line are exact to degree three, so that the rounded volume is nearest to the exact
+/// one, of folded cells too.
+#[test]
+fn rounded_volumes() {
+    let root = 1. / 3f64.sqrt();
+    let mut state = 1u64;
+    let mut whole = || {
+        state = state.wrapping_mul(6_364_136_223_846_793_005).wrapping_add(1);
+        (state >> 33) as i64 % 21 - 10
+    };
+    let cells: Vec<hex::Corners> =
+        (0..128).map(|_| SIGNS.map(|corner| corner.map(|_| whole() as f64))).collect();
+    let rounded = |p| (216. * hex::volume(p, &[-root, 1., root, 1.]).unwrap()).round() as i64;
+    let (volumes, report) = reported(&cells);
+    assert_eq!(volumes, cells.iter().map(rounded).collect::<Vec<_>>());
+    assert_eq!((report.total, report.cells), (volumes.iter().sum(), 128));
+    assert_eq!(report.first, volumes.iter().position(|volume| *volume <= 0).map(|k| k as u32));
+    assert!(volumes.iter().any(|volume| *volume > 0));
+}
+
+/// The example of docs/VOLUMES.md: boxes that hold 8, 6 and 1, in two orders.
+#[test]
+fn a_sum_in_two_orders() {
+    let root = 1. / 3f64.sqrt();
+    let sides = |a: f64, b: f64, c: f64| {
+        SIGNS.map(|[x, y, z]| [a * (x + 1.) / 2., b * (y + 1.) / 2., c * (z + 1.) / 2.])
+    };
+    let [eight, six, one] = [sides(2., 2., 2.), sides(1., 2., 3.), sides(1., 1., 1.)];
+    for (order, sum) in
+        [([eight, six, one], 14.999999999999998), ([eight, one, six], 14.999999999999996)]
+    {
+        let rounded = order.iter().map(|p| hex::volume(p, &[-root, 1., root, 1.]).unwrap());
+        assert_eq!(rounded.fold(0., |sum, volume| sum + volume), sum);
+        assert_eq!(reported(&order).1.total, 216 * 15);
+    }
+}
+
+/// Cells that share their nodes: each is read by its own numbers.
+#[test]
+fn volumes_of_a_file() {
+    let nodes = SIGNS.map(|corner| corner.map(|x| (x + 1.).to_bits()));
+    let cells = [0, 1, 2, 3, 4, 5, 6, 7, 0, 3, 2, 1, 4, 7, 6, 5];
+    let mut file = [0; 269];
+    assert_eq!(mesh::write(nodes.as_flattened(), &cells, &mut file), Ok(269));
+    let mut volumes = [77; 4];
+    let report = VolumeReport { total: 0, cells: 2, first: Some(1) };
+    assert_eq!(mesh::volume_report(&file, &mut volumes), Ok(report));
+    assert_eq!(volumes, [1728, -1728, 77, 77]);
 }

@@ -2,7 +2,7 @@
 //! (`make sanitize`).
 
 use isnemgul::hex::{self, Proposal, SIGNS};
-use isnemgul::mesh::{self, Counts};
+use isnemgul::mesh::{self, Counts, VolumeReport};
 use isnemgul::{Refusal, prism};
 
 fn boxed<T: Clone>(list: &[T]) -> Box<[T]> {
@@ -120,5 +120,43 @@ fn write_and_read() {
         let counts = mesh::read(&file, &mut same_nodes, &mut same_numbers);
         assert_eq!(counts, Ok(Counts { nodes: n as u32, cells: c as u32 }));
         assert_eq!((same_nodes, same_numbers), (nodes, numbers));
+    }
+}
+
+/// The largest cells: 128 times the cube of side 2,048, and with every corner negated. The list has
+/// one number a cell, or one less.
+#[test]
+fn volumes() {
+    const LARGEST: i64 = 216 << 33;
+    for sign in [1., -1.] {
+        let corners = SIGNS.map(|corner| corner.map(|x| (1024. * sign * x).to_bits()));
+        let (nodes, mut file) = (boxed(&corners.as_flattened().repeat(128)), boxed(&[0; 28_685]));
+        assert_eq!(mesh::write(&nodes, &cells(), &mut file), Ok(28_685));
+        let mut volumes = boxed(&[77; 127]);
+        assert_eq!(mesh::volume_report(&file, &mut volumes), Err(Refusal::Length));
+        assert_eq!(volumes, boxed(&[77; 127]));
+        let mut volumes = boxed(&[77; 128]);
+        let total = 128 * LARGEST * sign as i64;
+        let report = VolumeReport { total, cells: 128, first: (sign < 0.).then_some(0) };
+        assert_eq!(mesh::volume_report(&file, &mut volumes), Ok(report));
+        assert_eq!(volumes, boxed(&[LARGEST * sign as i64; 128]));
+        for length in (0..file.len()).filter(|length| *length < 40 || length % 997 == 0) {
+            assert!(mesh::volume_report(&boxed(&file[..length]), &mut []).is_err());
+        }
+        let longer = boxed(&[&file[..], b"\n"].concat());
+        assert_eq!(mesh::volume_report(&longer, &mut []), Err(Refusal::FileLength));
+    }
+}
+
+/// Every number of cells, with nodes that no cell uses, into a list of their number.
+#[test]
+fn volumes_of_cells() {
+    for (n, c) in (0..=128).map(|c| (8 * c, c)).chain([(1024, 0), (1024, 1), (9, 1)]) {
+        let nodes: Box<[u64]> = (0..3 * n).map(|i| ((i % 1025) as f64).to_bits()).collect();
+        let mut file = boxed(&vec![77; 13 + 24 * n + 32 * c]);
+        mesh::write(&nodes, &cells()[..8 * c], &mut file).unwrap();
+        let mut volumes = boxed(&vec![77; c]);
+        let report = mesh::volume_report(&file, &mut volumes).unwrap();
+        assert_eq!((report.cells, report.total), (c as u32, volumes.iter().sum()));
     }
 }

@@ -4,7 +4,7 @@
 use std::collections::BTreeMap;
 
 use isnemgul::hex::{self, Proposal, SIGNS};
-use isnemgul::mesh::{self, Counts};
+use isnemgul::mesh::{self, Counts, VolumeReport};
 use isnemgul::{Point, Refusal, mat3, prism};
 
 use Refusal::*;
@@ -35,7 +35,7 @@ fn page() -> BTreeMap<u32, &'static str> {
 fn numbers_and_words() {
     let mut words = page();
     assert_eq!(words.remove(&0), Some("answered"));
-    assert!(words.len() >= 14);
+    assert!(words.len() >= 15);
     for number in (0..1000).chain(words.keys().copied()).chain([u32::MAX]) {
         let refusal = Refusal::from_number(number);
         assert_eq!(refusal.map(Refusal::words), words.get(&number).copied(), "{number}");
@@ -217,8 +217,8 @@ fn file(n: u32, cells: &[u32]) -> Vec<u8> {
     bytes
 }
 
-#[test]
-fn read() {
+/// Files that the reader refuses, whatever the lists.
+fn bad_files() -> [(Vec<u8>, Refusal); 9] {
     let good = file(8, &CELL);
     let edited = |at: usize, byte: u8| {
         let mut bytes = good.clone();
@@ -226,7 +226,7 @@ fn read() {
         bytes
     };
     let (nodes_at, cells_at) = (5, 13 + 24 * 8);
-    let cases: [(Vec<u8>, Refusal); 9] = [
+    [
         (b"hxm\x02\0\0\0\0\0\0\0\0".to_vec(), FileLength),
         (edited(2, b'N'), Mark),
         (edited(4, 1), Version),
@@ -236,9 +236,14 @@ fn read() {
         ([&good[..], b"\n"].concat(), FileLength),
         (edited(cells_at, 8), Range),
         (edited(cells_at, 1), Twice),
-    ];
+    ]
+}
+
+#[test]
+fn read() {
+    let good = file(8, &CELL);
     let (mut nodes, mut cells) = ([77; 24], [77; 8]);
-    for (bytes, refusal) in cases {
+    for (bytes, refusal) in bad_files() {
         assert_eq!(mesh::read(&bytes, &mut nodes, &mut cells), Err(refusal));
         assert_eq!(mesh::read(&bytes, &mut [], &mut []), Err(refusal));
     }
@@ -247,7 +252,7 @@ fn read() {
     assert_eq!((nodes, cells), ([77; 24], [77; 8]));
 }
 
-/// A mesh file may be twisted: neither the writer nor the reader looks at faces.
+/// A mesh file may be twisted: neither the writer nor the reader nor the report looks at faces.
 #[test]
 fn twisted_file() {
     let nodes = [0; 36];
@@ -258,6 +263,8 @@ fn twisted_file() {
     let counts = mesh::read(&out, &mut same_nodes, &mut same_cells);
     assert_eq!(counts, Ok(Counts { nodes: 12, cells: 2 }));
     assert_eq!((same_nodes, same_cells), (nodes, TWISTED));
+    let report = VolumeReport { total: 0, cells: 2, first: Some(0) };
+    assert_eq!(mesh::volume_report(&out, &mut [77; 2]), Ok(report));
 }
 
 /// Each refusal has one later in the order beside it where there can be one; there is no room, or
@@ -305,4 +312,74 @@ fn room_for_a_file() {
         assert_eq!(mesh::write(&nodes, &cells, &mut out[..length]), Ok(length as u32));
         assert_eq!(out, [&file[..], &[77]].concat());
     }
+}
+
+/// The file with this word in the place of coordinate i.
+fn with_word(file: &[u8], i: usize, word: u64) -> Vec<u8> {
+    let mut bytes = file.to_vec();
+    bytes[13 + 8 * i..21 + 8 * i].copy_from_slice(&word.to_le_bytes());
+    bytes
+}
+
+fn report_refuses(file: &[u8], room: usize, refusal: Refusal) {
+    let mut volumes = vec![77; room];
+    assert_eq!(mesh::volume_report(file, &mut volumes), Err(refusal));
+    assert_eq!(volumes, vec![77; room]);
+}
+
+const HALF: u64 = 0x3fe0_0000_0000_0000;
+
+/// What the reader refuses comes first, with a node off the grid too, and no room.
+#[test]
+fn report_of_a_bad_file() {
+    for (bytes, refusal) in bad_files() {
+        for room in [0, 8] {
+            report_refuses(&bytes, room, refusal);
+            if bytes.len() > 20 {
+                report_refuses(&with_word(&bytes, 0, HALF), room, refusal);
+            }
+        }
+    }
+    for (cells, refusal) in [(two_cells(|c| c[15] = 8), Range), (two_cells(|c| c[15] = 0), Twice)] {
+        report_refuses(&with_word(&file(8, &cells), 0, HALF), 0, refusal);
+    }
+}
+
+/// Every coordinate of every node is looked at, of the unused last one too, before the room is.
+#[test]
+fn off_the_grid() {
+    let nine = file(9, &CELL);
+    let bad = [f64::NAN, f64::INFINITY, -f64::INFINITY, 0.5, -1023.5, 1025., -1025., 2e300, 5e-324];
+    let patterns = [0x7ff0_0000_0000_0001, 0x4090_0000_0000_0001, 0xc090_0000_0000_0001, u64::MAX];
+    for i in 0..27 {
+        for word in bad.map(f64::to_bits).into_iter().chain(patterns) {
+            for room in [0, 1, 2] {
+                report_refuses(&with_word(&nine, i, word), room, OffGrid);
+            }
+        }
+        for good in [0f64, -0., 1., -1., 1023., 1024., -1024.] {
+            let bytes = with_word(&nine, i, good.to_bits());
+            assert_eq!(mesh::volume_report(&bytes, &mut [77]).map(|report| report.cells), Ok(1));
+            report_refuses(&bytes, 0, Length);
+        }
+    }
+    report_refuses(&with_word(&file(1, &[]), 0, HALF), 0, OffGrid);
+}
+
+/// The last refusal: a number short of the cells.
+#[test]
+fn room_for_a_report() {
+    for c in [1, 2, 127, 128] {
+        let bytes = file(8, &CELL.repeat(c));
+        for room in [0, c - 1] {
+            report_refuses(&bytes, room, Length);
+        }
+        let mut volumes = vec![77; c + 2];
+        let report = VolumeReport { total: 0, cells: c as u32, first: Some(0) };
+        assert_eq!(mesh::volume_report(&bytes, &mut volumes[..c]), Ok(report));
+        assert_eq!(mesh::volume_report(&bytes, &mut volumes), Ok(report));
+        assert_eq!(volumes, [&vec![0; c][..], &[77; 2]].concat());
+    }
+    let none = VolumeReport { total: 0, cells: 0, first: None };
+    assert_eq!(mesh::volume_report(&file(0, &[]), &mut []), Ok(none));
 }
