@@ -1,9 +1,19 @@
 /* Where does the thermocouple sit? A probe is buried in a cast block that is meshed by one hexahedron and one prism.
- * Then a mesh of two hexahedra is refined, and the node numbers of the sixteen children are printed; one whose second cell is glued on with a
- * twist is refused. Last the mesh is written as a file, the file is read, and what was read is compared with what was written. */
+ * Then a second hexahedron stands beside the block. Of this mesh the exact volumes are reported, and what it weighs; it is refined, and the node
+ * numbers of the sixteen children are printed; one whose second cell is glued on with a twist is refused. Last the mesh is written as a file, the
+ * file is read, and what was read is compared with what was written. */
+#include <inttypes.h>
 #include <stdio.h>
 #include <string.h>
 #include "isnemgul.h"
+
+/* The mesh: two cells, and the places of its 12 nodes, on a grid of 1 cm. The block is the first cell. */
+static const uint32_t cells[16] = {0, 1, 2, 3, 4, 5, 6, 7, 1, 8, 9, 2, 5, 11, 10, 6};
+static const double places[36] = {
+    0, 0, 0, 4, 0, 0, 5, 3, 0, 0, 3, 1, /* 0 to 3 */
+    0, 0, 6, 4, 1, 6, 5, 4, 7, 0, 3, 6, /* 4 to 7 */
+    9, 0, 0, 9, 3, 0, 9, 4, 7, 8, 1, 6, /* 8 to 11 */
+};
 
 /* The corners with the probe's place subtracted. */
 static void around(const double *mesh, size_t corners, const double probe[3], double out[]) {
@@ -35,18 +45,17 @@ static void say_checked(const char *place, uint32_t answer) {
 }
 
 static void locate(void) {
-    static const double block[24] = {0, 0, 0, 4, 0, 0, 5, 3, 0, 0, 3, 1, 0, 0, 6, 4, 1, 6, 5, 4, 7, 0, 3, 6};
     static const double rib[18] = {4, 0, 0, 7, 0, 0, 5, 3, 0, 4, 1, 6, 7, 1, 6, 5, 4, 7};
     static const double probes[2][3] = {{1.5, 1.25, 2}, {5, 1.5, 3}};
     double corners[24], at[3];
     for (size_t n = 0; n < 2; n++) {
-        around(block, 8, probes[n], corners);
+        around(places, 8, probes[n], corners);
         say("block", probes[n], isn_hex_parametric_coord_for_origin(corners, at), at);
         around(rib, 6, probes[n], corners);
         say("rib", probes[n], isn_prism_parametric_coord_for_origin(corners, at), at);
     }
     double found[3];
-    around(block, 8, probes[0], corners);
+    around(places, 8, probes[0], corners);
     uint32_t answer = isn_hex_locate_checked(corners, 1e-9, found);
     say_checked("probe checked to 1e-9", answer);
     if (answer != ISN_OK)
@@ -55,15 +64,38 @@ static void locate(void) {
     say_checked("a place 1e-6 beside it", isn_hex_check(corners, found, 1e-9));
 }
 
-/* The mesh: two cells, and the places of its 12 nodes. */
-static const uint32_t cells[16] = {0, 1, 2, 3, 4, 5, 6, 7, 1, 8, 9, 2, 5, 11, 10, 6};
-static const double places[36] = {
-    0,   0, 0,   0.1, 0, 0,   0.1, 0.1, 0,   0,   0.1, 0,   /* 0 to 3 */
-    0,   0, 0.1, 0.1, 0, 0.1, 0.1, 0.1, 0.1, 0,   0.1, 0.1, /* 4 to 7 */
-    0.3, 0, 0,   0.3, 0.1, 0, 0.3, 0.1, 0.1, 0.3, 0,   0.1, /* 8 to 11 */
-};
+/* The mesh as a file. The lists own the counts: it holds as many nodes and cells as they do. */
+static uint8_t file[ISN_LONGEST_FILE];
+static uint64_t nodes[36];
 
-/* The same nodes: the second cell's face has the nodes 1, 2, 6, 5 too, and they run 5, 1, 6, 2. */
+static uint32_t write_file(uint32_t *length) {
+    memcpy(nodes, places, sizeof nodes);
+    return isn_hxm_write(nodes, 36, cells, 16, file, sizeof file, length);
+}
+
+/* The lines that `hexvol` prints for this file, and the weight. Answers whether there was a report. */
+static int report(void) {
+    int64_t volumes[2], total;
+    uint32_t length, counts[2];
+    uint32_t answer = write_file(&length);
+    if (answer == ISN_OK)
+        answer = isn_volume_report(file, length, volumes, 2, &total, counts);
+    if (answer != ISN_OK) {
+        say_refused(answer);
+        return 0;
+    }
+    for (uint32_t k = 0; k < counts[0]; k++)
+        printf("%" PRIu32 " %" PRId64 "\n", k, volumes[k]);
+    printf("total %" PRId64 "\n", total);
+    if (counts[1] < counts[0])
+        printf("first %" PRIu32 "\n", counts[1]);
+    else
+        printf("first none\n");
+    printf("The total is %g cm^3; of iron, at 7.2 g a cm^3, that is %g kg.\n", (double)total / 216, (double)total / 216 * 7.2 / 1000);
+    return 1;
+}
+
+/* Two cells of the same nodes: a face of the second has the nodes 1, 2, 6, 5 too, and they run 5, 1, 6, 2. */
 static const uint32_t twisted[16] = {0, 1, 2, 3, 4, 5, 6, 7, 1, 8, 9, 5, 6, 11, 10, 2};
 
 /* The table that `hexkids` prints for a mesh file with these two cells; a refusal is said in words. */
@@ -80,13 +112,11 @@ static uint32_t refine(const uint32_t mesh[16]) {
     return ISN_OK;
 }
 
-/* The lists own the counts: the file holds as many nodes and cells as they do. Answers whether the file gives both lists back, bit for bit. */
+/* Answers whether the file gives both lists back, bit for bit. */
 static int write_and_read(void) {
-    static uint8_t file[ISN_LONGEST_FILE];
-    uint64_t nodes[36], read_nodes[36];
+    uint64_t read_nodes[36];
     uint32_t read_cells[16], length, counts[2];
-    memcpy(nodes, places, sizeof nodes);
-    uint32_t answer = isn_hxm_write(nodes, 36, cells, 16, file, sizeof file, &length);
+    uint32_t answer = write_file(&length);
     if (answer == ISN_OK) {
         printf("written: %u bytes\n", (unsigned)length);
         answer = isn_hxm_read(file, length, read_nodes, 36, read_cells, 16, counts);
@@ -103,11 +133,13 @@ static int write_and_read(void) {
 
 int main(void) {
     locate();
+    printf("\nThe block and a cell beside it, on a grid of 1 cm: 216 times each volume, a whole number, and the first cell that is not above zero.\n");
+    int reported = report();
     printf("\nTwo cells that share the face 1 2 6 5, refined: its middle is node 26 in both.\n");
     refine(cells);
     printf("\nThe second cell glued on with a twist: the face 1 2 6 5 of the first is 5 1 6 2 in the second.\n");
     if (refine(twisted) == ISN_REFUSED_TWISTED)
         printf("Both rings have the sides 1 5 and 2 6, and the other two differ. Look for two nodes exchanged: here 2 and 6 in the second cell.\n");
     printf("\nThe first two cells and the places of their 12 nodes, as a mesh file.\n");
-    return write_and_read() ? 0 : 1;
+    return write_and_read() && reported ? 0 : 1;
 }
