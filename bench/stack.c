@@ -33,6 +33,7 @@ static int32_t whole[3];
 static isn_proposal proposals[256];
 static uint8_t file[ISN_LONGEST_FILE];
 static uint64_t words[3072];
+static int64_t volumes[128], total;
 
 static volatile uint32_t answer;
 
@@ -65,7 +66,8 @@ static volatile uint32_t answer;
     X(isn_refine, (1024, cells, 1024, numbers, 8192, &number))                                                  \
     X(isn_descendant, (path, 20, 7, whole))                                                                     \
     X(isn_hxm_read, (file, sizeof file, words, 3072, cells, 1024, numbers))                                     \
-    X(isn_hxm_write, (words, 3072, cells, 1024, file, sizeof file, &number))
+    X(isn_hxm_write, (words, 3072, cells, 1024, file, sizeof file, &number))                                    \
+    X(isn_volume_report, (file, sizeof file, volumes, 128, &total, numbers))
 
 #define CALLER(name, arguments)          \
     static void call_##name(void) {      \

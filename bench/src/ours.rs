@@ -96,6 +96,14 @@ unsafe extern "C" {
         room: usize,
         length: &mut u32,
     ) -> u32;
+    fn isn_volume_report(
+        bytes: *const u8,
+        length: usize,
+        volumes: *mut i64,
+        room: usize,
+        total: &mut i64,
+        counts: &mut [u32; 2],
+    ) -> u32;
     fn plain_refine(
         n: u32,
         cells: *const u32,
@@ -161,4 +169,12 @@ pub fn write(nodes: &[u64], cells: &[u32], out: &mut [u8], length: &mut u32) -> 
     let (words, numbers) = ((nodes.as_ptr(), nodes.len()), (cells.as_ptr(), cells.len()));
     let (bytes, room) = (out.as_mut_ptr(), out.len());
     unsafe { isn_hxm_write(words.0, words.1, numbers.0, numbers.1, bytes, room, length) }
+}
+
+/// The total and both counts.
+pub type Report = (i64, [u32; 2]);
+
+pub fn volume_report(bytes: &[u8], volumes: &mut [i64], (total, counts): &mut Report) -> u32 {
+    let (numbers, room) = (volumes.as_mut_ptr(), volumes.len());
+    unsafe { isn_volume_report(bytes.as_ptr(), bytes.len(), numbers, room, total, counts) }
 }

@@ -144,8 +144,15 @@ fn number_at(bytes: &[u8], at: usize) -> u32 {
     u32::from_le_bytes(bytes[at..at + 4].try_into().expect("four bytes"))
 }
 
-#[inline(never)]
-pub fn read(bytes: &[u8], nodes: &mut [u64], cells: &mut [u32]) -> Result<[u32; 2], u32> {
+/// A good file: its counts, and where its nodes and cells stand.
+struct File<'a> {
+    counts: [u32; 2],
+    nodes: &'a [u8],
+    cells: &'a [u8],
+}
+
+#[inline(always)]
+fn judged(bytes: &[u8]) -> Result<File<'_>, u32> {
     if bytes.len() < 13 {
         return Err(13);
     }
@@ -163,18 +170,24 @@ pub fn read(bytes: &[u8], nodes: &mut [u64], cells: &mut [u32]) -> Result<[u32; 
     if bytes.len() != 13 + 8 * coords + 4 * corners {
         return Err(13);
     }
-    let (of_nodes, of_cells) = bytes[13..].split_at(8 * coords);
-    faults(n, of_cells.as_chunks::<32>().0.iter().map(cell))?;
-    if nodes.len() < coords || cells.len() < corners {
+    let (nodes, cells) = bytes[13..].split_at(8 * coords);
+    faults(n, cells.as_chunks::<32>().0.iter().map(cell))?;
+    Ok(File { counts: [n, c], nodes, cells })
+}
+
+#[inline(never)]
+pub fn read(bytes: &[u8], nodes: &mut [u64], cells: &mut [u32]) -> Result<[u32; 2], u32> {
+    let file = judged(bytes)?;
+    if nodes.len() < file.nodes.len() / 8 || cells.len() < file.cells.len() / 4 {
         return Err(8);
     }
-    for (word, pattern) in nodes.iter_mut().zip(of_nodes.as_chunks::<8>().0) {
+    for (word, pattern) in nodes.iter_mut().zip(file.nodes.as_chunks::<8>().0) {
         *word = u64::from_le_bytes(*pattern);
     }
-    for (number, four) in cells.iter_mut().zip(of_cells.as_chunks::<4>().0) {
+    for (number, four) in cells.iter_mut().zip(file.cells.as_chunks::<4>().0) {
         *number = u32::from_le_bytes(*four);
     }
-    Ok([n, c])
+    Ok(file.counts)
 }
 
 fn cell(bytes: &[u8; 32]) -> [u32; 8] {
@@ -208,4 +221,50 @@ pub fn write(nodes: &[u64], cells: &[u32], out: &mut [u8]) -> Result<u32, u32> {
         at += 4;
     }
     Ok(length as u32)
+}
+
+/// The whole number that a coordinate is, where its size is at most 1,024.
+fn on_grid(pattern: &[u8; 8]) -> Result<i64, u32> {
+    let x = f64::from_le_bytes(*pattern);
+    let whole = x as i64;
+    if x.abs() <= 1024.0 && whole as f64 == x { Ok(whole) } else { Err(15) }
+}
+
+fn determinant([x, y, z]: [[i64; 3]; 3]) -> i64 {
+    x[0] * (y[1] * z[2] - y[2] * z[1]) - x[1] * (y[0] * z[2] - y[2] * z[0])
+        + x[2] * (y[0] * z[1] - y[1] * z[0])
+}
+
+/// 216 times the signed volume.
+fn volume(corners: &[[i64; 3]; 8]) -> i64 {
+    let at = |k: usize, axis: usize| corners[k][axis];
+    let parts = [[3, 1, 7, 2], [4, 3, 5, 7], [1, 4, 2, 5]].map(|[p, q, u, v]| {
+        determinant([0, 1, 2].map(|i| {
+            [at(p, i) - at(q, i) + at(u, i) - at(v, i), at(6, i) - at(p, i), at(v, i) - at(0, i)]
+        }))
+    });
+    18 * (parts[0] + parts[1] + parts[2])
+}
+
+/// The total and both counts: how many cells there are, and which is the first not above zero.
+#[inline(never)]
+pub fn volume_report(bytes: &[u8], volumes: &mut [i64]) -> Result<(i64, [u32; 2]), u32> {
+    let file = judged(bytes)?;
+    let mut nodes = [[0; 3]; 1024];
+    for (x, pattern) in nodes.as_flattened_mut().iter_mut().zip(file.nodes.as_chunks::<8>().0) {
+        *x = on_grid(pattern)?;
+    }
+    let [_, c] = file.counts;
+    if volumes.len() < c as usize {
+        return Err(8);
+    }
+    let (mut total, mut first) = (0, c);
+    for (k, (numbers, out)) in file.cells.as_chunks::<32>().0.iter().zip(volumes).enumerate() {
+        *out = volume(&cell(numbers).map(|node| nodes[node as usize]));
+        total += *out;
+        if *out <= 0 && first == c {
+            first = k as u32;
+        }
+    }
+    Ok((total, [c, first]))
 }

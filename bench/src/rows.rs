@@ -253,6 +253,7 @@ pub fn all() -> Vec<Row> {
     rows.push(proposals(chance));
     rows.extend(meshes(chance));
     rows.extend(files(chance));
+    rows.push(volumes(chance));
     rows
 }
 
@@ -562,4 +563,33 @@ fn files(chance: &mut Chance) -> Vec<Row> {
         |(nodes, cells), (out, length)| ours::write(nodes, cells, out, length),
     );
     vec![read, write]
+}
+
+/// Files of 1,024 nodes on the grid and 128 cells apart: boxes whose corners are moved a little, so
+/// that all are above zero.
+fn volumes(chance: &mut Chance) -> Row {
+    let files: Rc<[Vec<u8>]> = (0..4)
+        .map(|_| {
+            let (_, cells) = apart(chance);
+            let mut nodes = vec![[0; 3]; 1024];
+            for cell in cells.as_chunks::<8>().0 {
+                let middle: Place = std::array::from_fn(|_| chance.whole(900));
+                for (node, sign) in cell.iter().zip(hex::HEX_SIGN) {
+                    let moved = |i| middle[i] + 100.0 * sign[i] + chance.whole(20);
+                    nodes[*node as usize] = std::array::from_fn(moved).map(f64::to_bits);
+                }
+            }
+            let mut file = vec![0; 28_685];
+            plain::write(nodes.as_flattened(), &cells, &mut file).expect("a good mesh");
+            file
+        })
+        .collect();
+    row_into(
+        "volumes of a full file",
+        "plain Rust",
+        &files,
+        (vec![0; 128], (0, [0; 2])),
+        |file, (volumes, report)| put(plain::volume_report(file, volumes), report),
+        |file, (volumes, report)| ours::volume_report(file, volumes, report),
+    )
 }
