@@ -93,7 +93,7 @@ compare: $(DRIVE)
 second: $(DRIVE)
 	python3 oracle/second/second.py --cases $(CASES) --seed $(SEED) | $(VIA) $(DRIVE)
 
-HEXKIDS = target/bin/hexkids
+PROGRAMS = hexkids hexvol
 
 .PHONY: examples rust bench stack sanitize native
 
@@ -119,18 +119,20 @@ rust: $(ARCHIVE)
 bench: native $(ARCHIVE)
 	cargo run --release --offline --quiet --manifest-path bench/Cargo.toml -- $(BENCH)
 
-# The stack that each entry and hexkids take.
+# The stack that each entry and both programs take.
 stack: $(ARCHIVE)
 	mkdir -p target/bench
 	$(VIA) cc -std=gnu99 $(STRICT) -Iinclude bench/stack.c $(ARCHIVE) -o target/bench/stack
 	$(VIA) target/bench/stack
 	@$(VIA) target/bench/stack --file >target/bench/full.hxm
-	@if [ -n "$(VIA)" ]; then echo "hexkids is skipped: the emulator has a stack of its own"; \
-	elif [ -x $(HEXKIDS) ]; then bench/least-stack $(HEXKIDS) target/bench/full.hxm; \
-	else echo "hexkids is skipped: rt check hexkids builds it"; fi
+	@set -e; for name in $(PROGRAMS); do \
+	    if [ -n "$(VIA)" ]; then echo "$$name is skipped: the emulator has a stack of its own"; \
+	    elif [ -x target/bin/$$name ]; then bench/least-stack target/bin/$$name target/bench/full.hxm; \
+	    else echo "$$name is skipped: rt check $$name builds it"; fi; \
+	done
 
 # The C programs under the address and undefined-behaviour sanitizers. These see the programs and what they lend, not inside the archive: there valgrind
-# looks, with the Rust tests, whose lists are allocated to the element, and with hexkids on a good, a full, a cut, an empty and a foreign file.
+# looks, with the Rust tests, whose lists are allocated to the element, and with both programs on a good, a full, a cut, an empty and a foreign file.
 VALGRIND = valgrind --quiet --error-exitcode=99
 SANITIZED = -g -O1 -Wall -Wextra -pedantic -fsanitize=address,undefined -fno-sanitize-recover=all -Iinclude
 
@@ -146,7 +148,12 @@ sanitize: native $(ARCHIVE)
 	CARGO_TARGET_X86_64_UNKNOWN_LINUX_GNU_RUNNER="$(VALGRIND)" \
 	    cargo test --offline --quiet --tests --manifest-path bindings/rust/Cargo.toml -- --test-threads 1
 	cc -std=gnu99 $(STRICT) -Iinclude bench/stack.c $(ARCHIVE) -o target/bench/stack
-	@if [ -x $(HEXKIDS) ]; then set -ex; cd target/sanitize; \
-	    cp ../../crates/hexkids/stdin good; ../bench/stack --file >full; head -c 20000 full >cut; cat full full >long; : >empty; \
-	    for file in good full cut long empty drive; do $(VALGRIND) $(abspath $(HEXKIDS)) <$$file >/dev/null; done; \
-	else echo "hexkids is skipped: rt check hexkids builds it"; fi
+	target/bench/stack --file >target/sanitize/full
+	cd target/sanitize && head -c 20000 full >cut && cat full full >long && : >empty
+	@set -e; for name in $(PROGRAMS); do \
+	    if [ -x target/bin/$$name ]; then \
+	        for file in crates/$$name/stdin $(addprefix target/sanitize/,full cut long empty drive); do \
+	            (set -x; $(VALGRIND) target/bin/$$name <$$file >/dev/null); \
+	        done; \
+	    else echo "$$name is skipped: rt check $$name builds it"; fi; \
+	done
