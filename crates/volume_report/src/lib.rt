@@ -150,11 +150,11 @@ fn total(volumes: &[i64]) -> i64
     ensures { λ r. ⌜ r ≡ total (now (volumes .entry)) ⌝ }
 {
     let mut sum: i64 = 0;
-    let mut c: usize = 0;
-    while c < volumes.len() {
-        let volume = volumes[c];
+    let mut added: usize = 0;
+    while added < volumes.len() {
+        let volume = volumes[added];
         sum = sum + volume;
-        c += 1;
+        added += 1;
     }
     sum
 }
@@ -164,15 +164,15 @@ fn first_not_above(volumes: &[i64]) -> usize
     requires { ⌜ EachWithin 5566277615616 (now volumes) ⌝ }
     ensures { λ r. ⌜ r ≡ firstNotAbove (now (volumes .entry)) ⌝ }
 {
-    let mut c: usize = 0;
-    while c < volumes.len() {
-        let volume = volumes[c];
+    let mut first: usize = 0;
+    while first < volumes.len() {
+        let volume = volumes[first];
         if volume <= 0 {
-            return c;
+            return first;
         }
-        c += 1;
+        first += 1;
     }
-    c
+    volumes.len()
 }
 
 // Reports the volumes of a mesh whose nodes are on the grid, where the list has room for them.

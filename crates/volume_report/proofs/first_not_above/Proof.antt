@@ -1,6 +1,6 @@
 -- `volume_report::first_not_above` meets its contract: the first c volumes are above zero. Assumes nothing.
 use Prim.Native.Nat.{ℕ, _+_, _-_, _≤_, _<_}
-use native.Mathlib.Nat.{not-suc-le-zero, eq-or-lt-of-le, le-of-suc-le-suc}
+use native.Mathlib.Nat.{not-suc-le-zero, eq-or-lt-of-le, le-of-suc-le-suc, le-refl, lt-irrefl, lt-of-lt-of-le}
 use native.Mathlib.Numerals.{add-one}
 use native.Mathlib.Omega.{arith}
 use mathlib.Core.Path.{_≡_, sym, subst, subst⁻¹}
@@ -16,10 +16,10 @@ use Rattle.volume_report.proofs.first_not_above.Statement.{statement}
 use Rattle.volume_report.proofs.first_not_above.Tie as tie
 
 abbrev Inv-loop : tie.InvT-loop
-Inv-loop volumes c₀ c = (c ≤ length volumes) × ((j : ℕ) → j < c → leZ (getD volumes j (pos 0)) (pos 0) ≡ false)
+Inv-loop volumes first₀ first = (first ≤ length volumes) × ((j : ℕ) → j < first → leZ (getD volumes j (pos 0)) (pos 0) ≡ false)
 
 abbrev μ-loop : tie.MeasureT-loop
-μ-loop volumes c₀ c = length volumes - c
+μ-loop volumes first₀ first = length volumes - first
 
 one-more : {p : ℕ → Bool} (c : ℕ) → ((j : ℕ) → j < c → p j ≡ false) → p c ≡ false → (j : ℕ) → j < c + 1 → p j ≡ false
 one-more {p} c before this j h =
@@ -28,18 +28,20 @@ one-more {p} c before this j h =
 returns : tie.Need-returns Inv-loop μ-loop
 returns c =
     let turn = c .before .before .before in
-    let small = turn .before .pre .at (turn .loop .c) in
-    sym (least-is _ _ (turn .loop .c) (turn .loop .inv .0) (turn .loop .inv .1) (λ h. subst (λ (v : ℤ). leZ v (pos 0) ≡ true) (within-back tt small) (c .if1 .taken)))
+    let small = turn .before .pre .at (turn .loop .first) in
+    sym (least-is _ _ (turn .loop .first) (turn .loop .inv .0) (turn .loop .inv .1) (λ h. subst (λ (v : ℤ). leZ v (pos 0) ≡ true) (within-back tt small) (c .if1 .taken)))
 
 loop-again : tie.Need-loop-again Inv-loop μ-loop
 loop-again c =
     let turn = c .before .before .before in
-    let small = turn .before .pre .at (turn .loop .c) in
+    let small = turn .before .pre .at (turn .loop .first) in
     let above = subst (λ (v : ℤ). leZ v (pos 0) ≡ false) (within-back tt small) (c .if1 .left) in
     (omega arith, λ j h. one-more _ (turn .loop .inv .1) above j h)
 
 returns-2 : tie.Need-returns-2 Inv-loop μ-loop
-returns-2 c = sym (least-is _ _ (c .before .loop .c) (c .before .loop .inv .0) (c .before .loop .inv .1) (λ h. absurd (omega arith)))
+returns-2 c =
+    let last : length (c .before .before .args .volumes .now) ≤ c .before .loop .first = omega arith in
+    sym (least-is _ _ _ (le-refl _) (λ j h. c .before .loop .inv .1 j (lt-of-lt-of-le h last)) (λ h. absurd (lt-irrefl _ h)))
 
 pub first-not-above-spec : {M : Type 1} → statement M
 first-not-above-spec =

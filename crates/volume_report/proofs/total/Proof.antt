@@ -10,22 +10,22 @@ use Rattle.volume_report.proofs.total.Statement.{statement}
 use Rattle.volume_report.proofs.total.Tie as tie
 
 abbrev Inv-loop : tie.InvT-loop
-Inv-loop volumes sum₀ c₀ sum c = Summed volumes c (toZ w64 sum)
+Inv-loop volumes sum₀ added₀ sum added = Summed volumes added (toZ w64 sum)
 
 abbrev μ-loop : tie.MeasureT-loop
-μ-loop volumes sum₀ c₀ sum c = length volumes - c
+μ-loop volumes sum₀ added₀ sum added = length volumes - added
 
 add-sum : tie.Need-add-sum Inv-loop μ-loop
 add-sum c =
     let turn = c .before .before in
     let start = turn .before in
-    sum-fits (start .args .volumes .now) (start .pre .0) (start .pre .1) (turn .loop .c) _ (turn .loop .inv) (omega arith)
+    sum-fits (start .args .volumes .now) (start .pre .0) (start .pre .1) (turn .loop .added) _ (turn .loop .inv) (omega arith)
 
 loop-again : tie.Need-loop-again Inv-loop μ-loop
 loop-again c =
     let turn = c .before .before in
     let start = turn .before in
-    summed-more (start .args .volumes .now) (start .pre .0) (start .pre .1) (turn .loop .c) _ (turn .loop .inv) (omega arith)
+    summed-more (start .args .volumes .now) (start .pre .0) (start .pre .1) (turn .loop .added) _ (turn .loop .inv) (omega arith)
 
 pub total-spec : {M : Type 1} → statement M
 total-spec =
