@@ -13,8 +13,9 @@ use Rattle.numbering.specs.Refinement.{cellCount, childNumbers}
 use Rattle.numbering.proofs.Steps.{chain-length}
 use Rattle.refine.specs.Refine.{refined, allChildren, childrenIn}
 use Rattle.buffer.specs.Put.{joined}
-use Rattle.kids.specs.Text.{decimal, behind, field, line, table}
-use Rattle.kids.specs.Kids.{headLine, report, refusedLine, shown, kidsOf, printed, EnoughToPrint}
+use Rattle.text.specs.Text.{decimal, refusedLine, shown}
+use Rattle.kids.specs.Table.{behind, field, line, table}
+use Rattle.kids.specs.Kids.{headLine, report, kidsOf, printed, EnoughToPrint}
 
 joined-alike : (n : ℕ) (f g : ℕ → List ℕ) → ((i : ℕ) → i < n → f i ≡ g i) → joined n f ≡ joined n g
 unfolding joined

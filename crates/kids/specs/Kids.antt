@@ -3,21 +3,19 @@ use Prim.Native.Nat.{ℕ, _*_}
 use mathlib.Core.Path.{_≡_}
 use mathlib.Core.List.{List, [], _∷_, _++_}
 use lib.ListN.{take}
-use Rattle.answer.specs.Answer.{Answer, answered, refused, andThen}
+use Rattle.answer.specs.Answer.{Answer, answered, andThen}
 use Rattle.hxm.specs.Format.{Mesh, meshOf}
 use Rattle.numbering.specs.Refinement.{cellCount}
 use Rattle.refine.specs.Refine.{refined, allChildren}
-use Rattle.kids.specs.Text.{decimal, newline, table}
+use Rattle.text.specs.Text.{decimal, newline, shown}
+use Rattle.kids.specs.Table.{table}
 
--- "cells ", " nodes " and "refused "
+-- "cells " and " nodes "
 abbrev pub cellsWord : List ℕ
 cellsWord = 99 ∷ 101 ∷ 108 ∷ 108 ∷ 115 ∷ 32 ∷ []
 
 abbrev pub nodesWord : List ℕ
 nodesWord = 32 ∷ 110 ∷ 111 ∷ 100 ∷ 101 ∷ 115 ∷ 32 ∷ []
-
-abbrev pub refusedWord : List ℕ
-refusedWord = 114 ∷ 101 ∷ 102 ∷ 117 ∷ 115 ∷ 101 ∷ 100 ∷ 32 ∷ []
 
 -- "cells 8 nodes 27", and then the eight numbers of each child in a line
 abbrev pub headLine : ℕ → ℕ → List ℕ
@@ -25,14 +23,6 @@ headLine cells next = cellsWord ++ (decimal (8 * cells) ++ (nodesWord ++ (decima
 
 abbrev pub report : ℕ → ℕ → List ℕ → List ℕ
 report cells next children = headLine cells next ++ table 8 children (8 * cells)
-
--- "A refused file prints one line, as `refused 11`."
-abbrev pub refusedLine : ℕ → List ℕ
-refusedLine k = refusedWord ++ (decimal k ++ (newline ∷ []))
-
-abbrev pub shown : Answer (List ℕ) → List ℕ
-shown (answered text) = text
-shown (refused k) = refusedLine k
 
 -- the children of a mesh, with room for those of 128 cells
 unfoldable pub kidsOf : ℕ → List ℕ → Answer (List ℕ)

@@ -1,2 +1,2 @@
 pub mod Kids
-pub mod Text
+pub mod Table

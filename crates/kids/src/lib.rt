@@ -5,40 +5,19 @@ use hxm::MOST_WORDS;
 use hxm::Reading;
 use refine::Refined;
 ghost use mathlib.Core.Path.{_≡_};
-ghost use Prim.Native.Nat.{_+_, _*_, _^_, _<_, _≤_};
+ghost use Prim.Native.Nat.{_+_, _*_, _<_, _≤_};
 ghost use lib.ListN.{length, take};
 ghost use Rattle.buffer.specs.Put.{Wrote};
-ghost use Rattle.kids.specs.Text.{decimalIn, decimal, behind, line, table};
-ghost use Rattle.kids.specs.Kids.{headLine, report, refusedLine, shown, kidsOf, printed};
+ghost use Rattle.text.specs.Text.{decimal, shown};
+ghost use Rattle.kids.specs.Table.{behind, line, table};
+ghost use Rattle.kids.specs.Kids.{headLine, report, kidsOf, printed};
 
-fn digit(x: u32) -> u8
-    requires { ⌜ x < 10 ⌝ }
-    ensures { λ r. ⌜ r ≡ 48 + x ⌝ }
-{
-    48 + (x as u8)
-}
-
-// Writes a number of at most k digits.
-fn put_digits(out: &mut [u8], at: usize, x: u32, k: usize) -> usize
-    requires { ⌜ (0 < k) × (x < 10 ^ k) × (at + k ≤ length (now out)) ⌝ }
-    ensures { λ r. ⌜ Wrote (now (out .entry)) (now (out .exit)) at r (decimalIn k x) × (r ≤ at + k) ⌝ }
-{
-    if x < 10 {
-        return buffer::put_byte(out, at, digit(x));
-    }
-    if x < 100 {
-        let first = buffer::put_byte(&mut *out, at, digit(x / 10));
-        return buffer::put_byte(out, first, digit(x % 10));
-    }
-    let end = put_digits(&mut *out, at, x / 10, k - 1);
-    buffer::put_byte(out, end, digit(x % 10))
-}
-
-fn put_decimal(out: &mut [u8], at: usize, x: u32) -> usize
+// Writes a number of 32 bits, which has at most ten digits.
+fn put_number(out: &mut [u8], at: usize, x: u32) -> usize
     requires { ⌜ at + 10 ≤ length (now out) ⌝ }
     ensures { λ r. ⌜ Wrote (now (out .entry)) (now (out .exit)) at r (decimal x) × (r ≤ at + 10) ⌝ }
 {
-    put_digits(out, at, x, 10)
+    text::put_decimal(out, at, x as u64)
 }
 
 // What stands behind number j of w in a line.
@@ -57,7 +36,7 @@ fn put_line(out: &mut [u8], at: usize, numbers: &[u32], from: usize, w: usize) -
     let mut end = at;
     let mut j: usize = 0;
     while j < w {
-        end = put_decimal(&mut *out, end, numbers[from + j]);
+        end = put_number(&mut *out, end, numbers[from + j]);
         end = buffer::put_byte(&mut *out, end, behind(j, w));
         j += 1;
     }
@@ -78,24 +57,15 @@ fn put_table(out: &mut [u8], at: usize, numbers: &[u32], w: usize, n: usize) -> 
     end
 }
 
-fn put_refused(out: &mut [u8], k: u32) -> usize
-    requires { ⌜ 19 ≤ length (now out) ⌝ }
-    ensures { λ r. ⌜ Wrote (now (out .entry)) (now (out .exit)) 0 r (refusedLine k) ⌝ }
-{
-    let word = buffer::put_bytes(&mut *out, 0, b"refused ");
-    let number = put_decimal(&mut *out, word, k);
-    buffer::put_byte(out, number, b'\n')
-}
-
 // Writes the head line, which says how many children and nodes there are.
 fn put_head(out: &mut [u8], cells: u32, next: u32) -> usize
     requires { ⌜ (cells ≤ 128) × (34 ≤ length (now out)) ⌝ }
     ensures { λ r. ⌜ Wrote (now (out .entry)) (now (out .exit)) 0 r (headLine cells next) × (r ≤ 34) ⌝ }
 {
     let cells_word = buffer::put_bytes(&mut *out, 0, b"cells ");
-    let count = put_decimal(&mut *out, cells_word, 8 * cells);
+    let count = put_number(&mut *out, cells_word, 8 * cells);
     let nodes_word = buffer::put_bytes(&mut *out, count, b" nodes ");
-    let nodes = put_decimal(&mut *out, nodes_word, next);
+    let nodes = put_number(&mut *out, nodes_word, next);
     buffer::put_byte(out, nodes, b'\n')
 }
 
@@ -115,7 +85,7 @@ fn put_children(out: &mut [u8], n: u32, cells: &[u32]) -> usize
     let count = (cells.len() / 8) as u32;
     match refine::refine(n, cells, &mut children) {
         Refined::Next(next) => put_report(out, count, next, &children),
-        Refined::Refused(k) => put_refused(out, k),
+        Refined::Refused(k) => text::put_refused(out, 0, k),
     }
 }
 
@@ -131,6 +101,6 @@ pub fn list(bytes: &[u8], out: &mut [u8; 90146]) -> usize
             let count = CELL_NUMBERS * (c as usize);
             put_children(out, n, &cells[..count])
         }
-        Reading::Refused(k) => put_refused(out, k),
+        Reading::Refused(k) => text::put_refused(out, 0, k),
     }
 }

@@ -5,16 +5,16 @@ use Rattle.buffer.proofs.Writing.{wrote-then, puts-wrote}
 use Rattle.kids.proofs.put_head.Statement.{statement}
 use Rattle.kids.proofs.put_head.Tie as tie
 
-put-decimal-requires : tie.Need-put-decimal-requires
-put-decimal-requires c κs =
+put-number-requires : tie.Need-put-number-requires
+put-number-requires c κs =
     let word = puts-wrote (omega arith) (c .before .before .before .put-bytes .ensures) in
     omega (arith, word .ends, word .keeps)
 
-put-decimal-requires-2 : tie.Need-put-decimal-requires-2
-put-decimal-requires-2 c κs =
+put-number-requires-2 : tie.Need-put-number-requires-2
+put-number-requires-2 c κs =
     let nodes-word = c .before .before .before in
     let count = nodes-word .before .before .before .before .before in
-    let cells = count .put-decimal .ensures in
+    let cells = count .put-number .ensures in
     let first = puts-wrote (omega arith) (count .before .before .before .before .put-bytes .ensures) in
     let second = puts-wrote (omega (arith, first .ends, first .keeps, cells .0 .keeps, cells .1)) (nodes-word .put-bytes2 .ensures) in
     omega (arith, first .ends, first .keeps, cells .0 .keeps, cells .1, second .ends, second .keeps)
@@ -26,8 +26,8 @@ returns c =
     let nodes-word = next .before .before .before .before in
     let count = nodes-word .before .before .before .before .before in
     let start = count .before .before .before .before .before .before .before .before in
-    let cells = count .put-decimal .ensures in
-    let nodes = next .put-decimal2 .ensures in
+    let cells = count .put-number .ensures in
+    let nodes = next .put-number2 .ensures in
     let first = puts-wrote (omega (arith, start .pre)) (count .before .before .before .before .put-bytes .ensures) in
     let second = puts-wrote (omega (arith, start .pre, first .ends, first .keeps, cells .0 .keeps, cells .1)) (nodes-word .put-bytes2 .ensures) in
     let last =
@@ -46,10 +46,10 @@ put-head-spec =
     (λ c. search needs)
     (λ c κs. search needs)
     (λ c. search needs)
-    put-decimal-requires
+    put-number-requires
     (λ c. search needs)
     (λ c κs. search needs)
-    put-decimal-requires-2
+    put-number-requires-2
     (λ c κs. search needs)
     (λ c. search needs)
     returns)

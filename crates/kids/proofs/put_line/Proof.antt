@@ -2,7 +2,7 @@
 use Prim.Native.Nat.{_-_}
 use native.Mathlib.Omega.{arith}
 use borrow.Author.Needs.{needs}
-use Rattle.kids.specs.Text.{field}
+use Rattle.kids.specs.Table.{field}
 use Rattle.buffer.proofs.Writing.{wrote-then, puts-wrote, Writes, writes-none, writes-more, writes-all}
 use Rattle.kids.proofs.put_line.Statement.{statement}
 use Rattle.kids.proofs.put_line.Tie as tie
@@ -19,7 +19,7 @@ loop-again c =
     let sign = last .before in
     let put = sign .before .before .before .before in
     let turn = put .before .before .before .before in
-    let number = put .put-decimal .ensures in
+    let number = put .put-number .ensures in
     let held = turn .loop .inv in
     let byte = puts-wrote (omega (arith, held, held .wrote .keeps, number .0 .keeps, number .1)) (last .put-byte .ensures) in
     let text = wrote-then (number .0) (rw (sign .behind .ensures) at byte) in

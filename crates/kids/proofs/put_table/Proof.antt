@@ -3,7 +3,7 @@ use Prim.Native.Nat.{ℕ, _*_, _-_}
 use native.Mathlib.Omega.{arith}
 use borrow.Author.Needs.{needs}
 use Rattle.numbers.proofs.Slots.{row-within}
-use Rattle.kids.specs.Text.{line}
+use Rattle.kids.specs.Table.{line}
 use Rattle.buffer.proofs.Writing.{Writes, writes-none, writes-more, writes-all}
 use Rattle.kids.proofs.put_table.Statement.{statement}
 use Rattle.kids.proofs.put_table.Tie as tie

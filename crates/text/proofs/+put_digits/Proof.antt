@@ -1,4 +1,4 @@
--- `kids::put_digits` meets its contract: one digit, two, or those before the last, of which there are fewer, and then the last. Assumes nothing.
+-- `text::put_digits` meets its contract: one digit, two, or those before the last, of which there are fewer, and then the last. Assumes nothing.
 use Prim.Native.Nat.{ℕ, _-_, _/_, _<_}
 use native.Mathlib.Omega.{arith}
 use mathlib.Core.Path.{_≡_, sym}
@@ -7,15 +7,15 @@ use borrow.Author.Needs.{needs}
 use borrow.Fn.Kinds.{In}
 use borrow.Fn.PlainCycle.{Measures, is, falls, and}
 use Rattle.buffer.proofs.Writing.{wrote-then, puts-wrote}
-use Rattle.kids.specs.Text.{decimalIn}
-use Rattle.kids.proofs.Digits.{decimal-last, decimal-more, fewer-digits, two-digits}
-use Rattle.kids.proofs.put_digits.Reads as put-digits
-use Rattle.kids.proofs.put_digits.Kinds as put-digits-kinds
-use Rattle.kids.proofs.+put_digits.Lts-put_digits as put-digits-lts
-use Rattle.kids.proofs.digit.Reads as digit-reads
+use Rattle.text.specs.Text.{decimalIn}
+use Rattle.text.proofs.Digits.{decimal-last, decimal-more, fewer-digits, two-digits}
+use Rattle.text.proofs.put_digits.Reads as put-digits
+use Rattle.text.proofs.put_digits.Kinds as put-digits-kinds
+use Rattle.text.proofs.+put_digits.Lts-put_digits as put-digits-lts
+use Rattle.text.proofs.digit.Reads as digit-reads
 use Rattle.buffer.proofs.put_byte.Reads as put-byte-reads
-use Rattle.kids.proofs.+put_digits.{statement}
-use Rattle.kids.proofs.+put_digits.Tie.{close}
+use Rattle.text.proofs.+put_digits.{statement}
+use Rattle.text.proofs.+put_digits.Tie.{close}
 
 abbrev μ-put-digits : Measures 1 put-digits-kinds.ps ℕ
 μ-put-digits κs a = a .1 .1 .1 .0
