@@ -1,12 +1,12 @@
--- `hexkids::read_all` meets its contract: what is read goes behind what was read, and is no more than the room that was left. Each turn reads something, so
+-- `input::read_all` meets its contract: what is read goes behind what was read, and is no more than the room that was left. Each turn reads something, so
 -- the room falls. Assumes nothing.
 use Prim.Native.Nat.{_-_, _≤_}
 use native.Mathlib.Omega.{arith}
 use mathlib.Core.Path.{_≡_}
 use borrow.Author.Needs.{needs}
 use lib.ListN.{length, length-take, length-drop}
-use Rattle.hexkids.proofs.read_all.Statement.{statement}
-use Rattle.hexkids.proofs.read_all.Tie as tie
+use Rattle.input.proofs.read_all.Statement.{statement}
+use Rattle.input.proofs.read_all.Tie as tie
 
 abbrev Inv-loop : tie.InvT-loop
 Inv-loop fd buf₀ size₀ buf size = (size ≤ length buf) × (length buf ≡ length buf₀)
