@@ -5,16 +5,15 @@ use native.Mathlib.Omega.{arith}
 use mathlib.Core.Path.{_≡_, refl, _∙_, ap, ap₂}
 use mathlib.Core.Bool.{Bool, true, false, cond}
 use mathlib.Core.List.{List, [], _∷_, _++_}
-use lib.IntN.{ℤ, pos, negsuc, negℤ, subℕ, natAbs, _+ℤ_, _*ℤ_, +ℤ-assoc, +ℤ-comm, +ℤ-idl, negℤ-+ℤ}
+use lib.IntN.{ℤ, pos, negsuc, natAbs, _+ℤ_, _*ℤ_, +ℤ-assoc, +ℤ-comm, +ℤ-idl, negℤ-+ℤ}
 use lib.ListN.{length, getD, take, drop, length-append, length-drop}
 use lib.Seq.{take-all}
 use lib.Pow.{pow-mono}
-use lib.Dec.{ltb}
 use lib.Signed.{mag}
-use borrow.Author.Tests.{ltb-true}
 use mir.Syntax.{w32}
 use mir.Val.{SFits, toZ, ofZ}
 use mir.Facts.{toZ-pos, toZ-ofZ}
+use Rattle.integers.proofs.Sizes.{size-neg, size-add, size-mag}
 use Rattle.hex.specs.Cube.{upper}
 use Rattle.descendant.specs.Place.{sign, octant, sum, place, ToldLosesNothing, PlacesFollow}
 use Rattle.descendant.specs.declared.Descended.the-variants.{At, Refused}
@@ -35,13 +34,9 @@ times-double : (up : Bool) (p : ℕ) → cond up (pos 1) (negsuc 0) *ℤ pos (2 
 times-double true p = ap pos (omega arith)
 times-double false p = let twice : 1 * (2 * p) ≡ 1 * p + 1 * p = omega arith in rw twice (negℤ-+ℤ (pos (1 * p)) (pos (1 * p)))
 
-abs-neg : (n : ℕ) → natAbs (negℤ (pos n)) ≡ n
-abs-neg zero = refl
-abs-neg (suc n) = refl
-
 times-size : (up : Bool) (p : ℕ) → natAbs (cond up (pos 1) (negsuc 0) *ℤ pos p) ≡ p
 times-size true p = one-mul p
-times-size false p = abs-neg (1 * p) ∙ one-mul p
+times-size false p = size-neg (pos (1 * p)) ∙ one-mul p
 
 same-sum : (n : ℕ) (f g : ℕ → ℤ) → ((j : ℕ) → f (suc j) ≡ g (suc j)) → sum n f ≡ sum n g
 same-sum zero f g e = refl
@@ -98,19 +93,6 @@ places-follow = record { along = λ o k i rest. place-along i k o rest; deeper =
 
 -- sizes
 
-size-sub : (a b : ℕ) → natAbs (subℕ a b) ≤ a + b
-size-sub a b = by (ltb a b) refl
-  where
-    by : (t : Bool) → ltb a b ≡ t → natAbs (subℕ a b) ≤ a + b
-    by true e = let less : a < b = ltb-true a b e in rw e (omega arith)
-    by false e = rw e (omega arith)
-
-size-add : (x y : ℤ) → natAbs (x +ℤ y) ≤ natAbs x + natAbs y
-size-add (pos a) (pos b) = omega arith
-size-add (pos a) (negsuc b) = size-sub a (suc b)
-size-add (negsuc a) (pos b) = omega (arith, size-sub b (suc a))
-size-add (negsuc a) (negsuc b) = omega arith
-
 pub share-size : (o i p : ℕ) → natAbs (sign o i *ℤ pos p) ≡ p
 unfolding sign
 share-size o i p = times-size (upper o i) p
@@ -129,10 +111,6 @@ place-size [] k i = rw (place-none i k) (sign-size k i)
 place-size (o ∷ rest) k i =
     let sum = size-add (sign o i *ℤ pos (2 ^ length rest)) (place rest k i) in
     rw (place-along i k o rest) (omega (arith, sum, share-size o i (2 ^ length rest), place-size rest k i, pow-succ' 2 (length rest)))
-
-size-mag : (x : ℤ) → mag x ≤ natAbs x
-size-mag (pos a) = omega arith
-size-mag (negsuc a) = omega arith
 
 -- what is at most 2 ^ 20 fits 32 bits with a sign, and is read back from its bits
 pub fits : (d : ℕ) (x : ℤ) → d ≤ 20 → natAbs x ≤ 2 ^ d → SFits w32 x
