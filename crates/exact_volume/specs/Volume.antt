@@ -1,11 +1,12 @@
 -- 216 times a hexahedron's signed volume, exactly: document 02, 3/12, from the paragraph to the number. It is written over any numbers with sum, product,
 -- negation and numerals: in whole numbers it is `volume216`, and in expressions of unknown corners it is what a proof computes with. Definitions only.
-use Prim.Native.Nat.{ℕ, zero, suc, _+_, _-_, _*_, _/_, _%_, _^_}
+use Prim.Native.Nat.{ℕ, zero, suc, _+_, _-_, _*_, _/_}
 use mathlib.Core.Bool.{Bool, true, false, _&&_, cond, Bool·beq}
 use mathlib.Core.List.{List, [], _∷_, _++_, map}
 use lib.Dec.{eqb}
 use lib.IntN.{ℤ, pos}
 use lib.ListN.{getD}
+use Rattle.numbers.specs.Bits.{bit}
 use Rattle.numbers.specs.Rule.{tabulate, least}
 use Rattle.numbers.specs.Arithmetic.{Arithmetic}
 use Rattle.integers.specs.Integers.{integers}
@@ -32,9 +33,9 @@ lowered i powers j = cond (eqb i j) (powers j - 1) (powers j)
 abbrev pub weight : (ℕ → ℕ) → ℕ
 weight powers = 216 / ((powers 0 + 1) * (powers 1 + 1) * (powers 2 + 1))
 
--- powers of 0 and 1 by the binary digits of n, which give each of the eight choices once
-abbrev pub digit : ℕ → ℕ → ℕ
-digit n i = n / 2 ^ i % 2
+-- powers of 0 and 1: the three lowest bits of n, so that the numbers below eight give each choice once
+abbrev pub zerosAndOnes : ℕ → ℕ → ℕ
+zerosAndOnes n i = cond (bit n i) 1 0
 
 module _ {A : Type 0} (a : Arithmetic A) (number : ℕ → A) where
   open Arithmetic a using (one, neg, _⊕_, _⊖_, _⊗_)
@@ -52,7 +53,7 @@ module _ {A : Type 0} (a : Arithmetic A) (number : ℕ → A) where
   coefficient x powers = taken (powers 0) (λ p. taken (powers 1) (λ q. taken (powers 2) (λ u. x (cornerAt p q u))))
 
   abbrev pub axis : (ℕ → A) → Polynomial A
-  axis x = tabulate 8 (λ (n : ℕ). record { coefficient = coefficient x (digit n); powers = digit n })
+  axis x = tabulate 8 (λ (n : ℕ). record { coefficient = coefficient x (zerosAndOnes n); powers = zerosAndOnes n })
 
   -- the slope along axis i: that of r^e along r is e r^(e-1), and where there is no r there is none
   abbrev pub slope : ℕ → Polynomial A → Polynomial A
