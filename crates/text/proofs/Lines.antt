@@ -10,7 +10,7 @@ use borrow.Author.Tests.{le-leb}
 use mir.Syntax.{w64}
 use mir.Val.{SFits}
 use Rattle.buffer.specs.Put.{Puts, Wrote}
-use Rattle.buffer.proofs.Writing.{puts-written}
+use Rattle.buffer.proofs.Writing.{puts-written, puts-wrote}
 use Rattle.text.specs.Text.{decimal, newline, signedDecimal, refusedWord, refusedLine, TextLengths}
 use Rattle.text.proofs.Digits.{decimal-length, decimal-most}
 
@@ -40,3 +40,8 @@ pub wrote-puts : {before after : List ℕ} {at end : ℕ} {text : List ℕ} → 
     → Puts before after at end text
 wrote-puts {before} {after} {at} {end} {text} room w =
     rw (w .ends) (puts-written (length text) true refl (sym (le-leb (at + length text) (length before) room)) refl (rw (w .ends) at w))
+
+-- a refusal's line, whatever its number, where there is room for the longest
+pub refused-wrote : {before after : List ℕ} {at end : ℕ} (k : ℕ) → at + 29 ≤ length before → Puts before after at end (refusedLine k)
+    → Wrote before after at end (refusedLine k)
+refused-wrote k room p = puts-wrote (omega (arith, text-lengths .line k)) p

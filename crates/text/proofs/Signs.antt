@@ -9,9 +9,10 @@ use lib.Dec.{T, lit<}
 use lib.IntN.{ℤ, pos, negsuc, negℤ, sucℤ, natAbs, _+ℤ_, _-ℤ_, +ℤ-one, +ℤ-idl, negℤ-negℤ}
 use lib.Signed.{leZ, nonNeg}
 use mir.Syntax.{w64}
-use mir.Val.{Fits, SFits, toZ, ofZ}
+use mir.Val.{Fits, SFits}
 use mir.Facts.{toZ-ofZ, fits-natAbs}
 use Rattle.numbers.proofs.Cases.{never}
+use Rattle.integers.proofs.Sizes.{back}
 use Rattle.text.specs.Text.{decimal, minusSign, signedDecimal}
 
 -- ---- what the test of a sign says of a number, and of its text where the size is known
@@ -24,19 +25,19 @@ sign-below (pos n) fits f = never (sym (le-leb 0 n (omega arith)) ∙ f)
 sign-below (negsuc n) fits f = (n, refl, fits .sfits)
 
 module _ {x : ℤ} (fits : SFits w64 x) where
-  pub above : leZ (pos 0) (toZ w64 (ofZ w64 x)) ≡ true → pos (natAbs x) ≡ x
+  pub above : leZ (pos 0) (back x) ≡ true → pos (natAbs x) ≡ x
   above t = sign-above x (rw (toZ-ofZ fits) at t)
 
-  pub below : leZ (pos 0) (toZ w64 (ofZ w64 x)) ≡ false → (n : ℕ) × (x ≡ negsuc n) × (n < 2 ^ 63)
+  pub below : leZ (pos 0) (back x) ≡ false → (n : ℕ) × (x ≡ negsuc n) × (n < 2 ^ 63)
   below f = sign-below x fits (rw (toZ-ofZ fits) at f)
 
-  pub above-cast : leZ (pos 0) (toZ w64 (ofZ w64 x)) ≡ true → T (nonNeg x) × Fits w64 (natAbs x)
+  pub above-cast : leZ (pos 0) (back x) ≡ true → T (nonNeg x) × Fits w64 (natAbs x)
   above-cast t = (rw (← above t) tt, fits-natAbs tt fits)
 
-  pub text-above : leZ (pos 0) (toZ w64 (ofZ w64 x)) ≡ true → (size : ℕ) → size ≡ natAbs (toZ w64 (ofZ w64 x)) → decimal size ≡ signedDecimal x
+  pub text-above : leZ (pos 0) (back x) ≡ true → (size : ℕ) → size ≡ natAbs (back x) → decimal size ≡ signedDecimal x
   text-above t size is = ap decimal (is ∙ ap natAbs (toZ-ofZ fits)) ∙ ap signedDecimal (above t)
 
-  pub text-below : leZ (pos 0) (toZ w64 (ofZ w64 x)) ≡ false → (size : ℕ) → size ≡ natAbs (toZ w64 (ofZ w64 x))
+  pub text-below : leZ (pos 0) (back x) ≡ false → (size : ℕ) → size ≡ natAbs (back x)
       → (size ≤ 2 ^ 63) × (minusSign ∷ decimal size ≡ signedDecimal x)
   text-below f size is =
       let minus = below f in
@@ -45,10 +46,10 @@ module _ {x : ℤ} (fits : SFits w64 x) where
 
 -- ---- the code's way to the size: one is added, the sign turned, and one added again
 abbrev up : ℤ → ℤ
-up x = toZ w64 (ofZ w64 x) +ℤ pos 1
+up x = back x +ℤ pos 1
 
 abbrev turned : ℤ → ℤ
-turned x = pos 0 -ℤ toZ w64 (ofZ w64 (up x))
+turned x = pos 0 -ℤ back (up x)
 
 next : (n : ℕ) → sucℤ (negsuc n) ≡ negℤ (pos n)
 next zero = refl
@@ -58,7 +59,7 @@ neg-fits : (n : ℕ) → n < 2 ^ 63 → SFits w64 (negℤ (pos n))
 neg-fits zero small = record { sfits = lit< tt }
 neg-fits (suc n) small = record { sfits = omega arith }
 
-module _ {x : ℤ} (fits : SFits w64 x) (minus : leZ (pos 0) (toZ w64 (ofZ w64 x)) ≡ false) where
+module _ {x : ℤ} (fits : SFits w64 x) (minus : leZ (pos 0) (back x) ≡ false) where
   -- one less than the size
   abbrev pub rest : ℕ
   rest = below fits minus .0
@@ -78,14 +79,14 @@ module _ {x : ℤ} (fits : SFits w64 x) (minus : leZ (pos 0) (toZ w64 (ofZ w64 x
   pub turned-fits : SFits w64 (turned x)
   turned-fits = rw turned-is (record { sfits = rest-small })
 
-  turned-back : toZ w64 (ofZ w64 (turned x)) ≡ pos rest
+  turned-back : back (turned x) ≡ pos rest
   turned-back = toZ-ofZ turned-fits ∙ turned-is
 
-  pub turned-cast : T (nonNeg (toZ w64 (ofZ w64 (turned x)))) × Fits w64 (natAbs (toZ w64 (ofZ w64 (turned x))))
+  pub turned-cast : T (nonNeg (back (turned x))) × Fits w64 (natAbs (back (turned x)))
   turned-cast = rw turned-back (tt, record { fits = omega (arith, rest-small) })
 
-  pub turned-size : natAbs (toZ w64 (ofZ w64 (turned x))) ≡ rest
+  pub turned-size : natAbs (back (turned x)) ≡ rest
   turned-size = ap natAbs turned-back
 
-  pub size-is : natAbs (toZ w64 (ofZ w64 (turned x))) + 1 ≡ natAbs x
+  pub size-is : natAbs (back (turned x)) + 1 ≡ natAbs x
   size-is = omega (arith, turned-size, ap natAbs (below fits minus .1))

@@ -7,8 +7,8 @@ use borrow.Author.Needs.{needs}
 use lib.Dec.{lit≤}
 use Rattle.hxm.specs.Reads.{told, counts}
 use Rattle.hxm.proofs.Ladder.{Found, read-found, refusal, enough-room}
-use Rattle.buffer.proofs.Writing.{wrote-as, puts-wrote, wrote-counts}
-use Rattle.text.proofs.Lines.{text-lengths}
+use Rattle.buffer.proofs.Writing.{wrote-as, wrote-counts}
+use Rattle.text.proofs.Lines.{refused-wrote}
 use Rattle.kids.proofs.Report.{listed, refused-file}
 use Rattle.kids.proofs.list.Statement.{statement}
 use Rattle.kids.proofs.list.Tie as tie
@@ -37,7 +37,7 @@ returns-2 c =
     let k = c .before .before .before in
     let read = k .before .before .before .before in
     let answer = ap told (sym (k .k .given .1)) ∙ read .read .ensures .answer ∙ ap counts (enough-room _ _ _ (lit≤ tt) (lit≤ tt)) in
-    let text = wrote-as (refused-file _ _ (refusal _ _ answer)) (puts-wrote (omega (arith, text-lengths .line (k .k .given .0 .0))) (c .put-refused .ensures)) in
+    let text = wrote-as (refused-file _ _ (refusal _ _ answer)) (refused-wrote _ (omega arith) (c .put-refused .ensures)) in
     (text, wrote-counts text)
 
 pub list-spec : {M : Type 1} → statement M

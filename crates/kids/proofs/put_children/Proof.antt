@@ -3,8 +3,8 @@ use native.Mathlib.Omega.{arith}
 use mathlib.Core.Path.{ap}
 use borrow.Author.Needs.{needs}
 use Rattle.refine.specs.Refine.{told}
-use Rattle.buffer.proofs.Writing.{wrote-as, puts-wrote}
-use Rattle.text.proofs.Lines.{text-lengths}
+use Rattle.buffer.proofs.Writing.{wrote-as}
+use Rattle.text.proofs.Lines.{refused-wrote}
 use Rattle.kids.proofs.Report.{reported, refused-kids}
 use Rattle.kids.proofs.put_children.Statement.{statement}
 use Rattle.kids.proofs.put_children.Tie as tie
@@ -25,7 +25,7 @@ returns-2 c =
     let refined = k .before .before .before in
     let args = refined .before .before .before .before .args in
     let text = refused-kids (args .n) (args .cells .now) _ _ (ap told (k .k .given .1)) (refined .refine .ensures .0) in
-    wrote-as text (puts-wrote (omega (arith, text-lengths .line (k .k .given .0 .0))) (put .put-refused .ensures))
+    wrote-as text (refused-wrote _ (omega arith) (put .put-refused .ensures))
 
 pub put-children-spec : {M : Type 1} → statement M
 put-children-spec =
