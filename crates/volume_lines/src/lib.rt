@@ -2,7 +2,6 @@
 use hxm::MOST_CELLS;
 use volume_report::Reported;
 ghost use mathlib.Core.Path.{_≡_};
-ghost use mathlib.Core.List.{_++_};
 ghost use Prim.Native.Nat.{_+_, _*_, _<_, _≤_};
 ghost use lib.ListN.{length, take};
 ghost use Rattle.buffer.specs.Put.{Puts, Wrote};
@@ -11,7 +10,7 @@ ghost use Rattle.volume_lines.specs.Lines.{cellLine, cellLines, totalLin
 // The line of a cell has at most three digits for its number, which is below 128, a space, twenty characters for the volume and a newline.
 const CELL_LINE: usize = 3 + 1 + 20 + 1;
 
-// The line of the total has a word of six bytes, twenty characters and a newline, and that of the first cell the same word's length, ten digits and a newline.
+// That of the total has a word of six bytes, twenty characters and a newline; that of the first cell a word of six, at most ten digits and a newline.
 const TOTAL_LINE: usize = 6 + 20 + 1;
 
 const FIRST_LINE: usize = 6 + 10 + 1;
