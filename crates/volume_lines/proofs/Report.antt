@@ -13,7 +13,7 @@ use Rattle.hxm.proofs.Long.{enough-to-tell}
 use Rattle.text.specs.Text.{refusedLine}
 use Rattle.volume_report.specs.Report.{Report, reportOf, reportInto, volumesIn}
 use Rattle.volume_report.specs.Told.{Summary, summary, summaryOf}
-use Rattle.volume_report.proofs.Laws.{report-fits, enough-volumes}
+use Rattle.volume_report.proofs.Promises.{report-fits, enough-volumes}
 use Rattle.volume_lines.specs.Lines.{reportText, printed, EnoughToPrint}
 
 pub listed : (s : List ℕ) (r : Report) → reportOf s ≡ answered r → reportText r ≡ printed s

@@ -3,4 +3,4 @@ pub mod Cells
 pub mod Words
 pub mod Sums
 pub mod Meshes
-pub mod Laws
+pub mod Promises

@@ -7,7 +7,7 @@ use mathlib.Core.List.{List, [], _∷_, _++_, map}
 use lib.Dec.{eqb}
 use lib.Ieee.{Float, binary64, ofBits}
 use lib.IntN.{ℤ, pos, negsuc}
-use lib.ListN.{set}
+use lib.ListN.{set, getD}
 use Rattle.numbers.specs.Rule.{tabulate, grid}
 use Rattle.binary64.specs.Binary64.{f0, f1, m1}
 use Rattle.answer.specs.Answer.{Answer, answered, refused, left}
@@ -18,12 +18,15 @@ use Rattle.hex_iso_mask.specs.Cut.{isoMask}
 use Rattle.hex_iso_position.specs.Position.{isoPosition}
 use Rattle.probe.specs.Check.{checked}
 use Rattle.descendant.specs.Place.{descended}
-use Rattle.hxm_write.specs.Writes.{fileInto, lengthOf}
+use Rattle.exact_volume.specs.Volume.{volume216}
+use Rattle.hxm.specs.Format.{fileOf}
+use Rattle.hxm_write.specs.Writes.{meshOfLists, fileInto, lengthOf}
 use Rattle.numbering.specs.Refinement.{sameNodes, sameRing, nextBy}
 use Rattle.refine.specs.Refine.{refined}
+use Rattle.volume_lines.specs.Lines.{printed}
 
 -- what an entry answers: floats, a whole number, a place in whole numbers, an acceptance, or the bytes of a file; or what a lent buffer holds then; or what a
--- definition decides
+-- definition decides, or its whole number
 pub data Said : Type 0 where
   floats : Answer (List Float) → Said
   number : Answer ℕ → Said
@@ -32,6 +35,7 @@ pub data Said : Type 0 where
   file : Answer (List ℕ) → Said
   buffer : List ℕ → Said
   decided : Bool → Said
+  whole : ℤ → Said
 
 -- which example it is: the P number of document 01, or the number of document 02's request
 pub data Source : Type 0 where
@@ -124,6 +128,26 @@ glued = besides (1 ∷ 8 ∷ 9 ∷ 2 ∷ 5 ∷ 11 ∷ 10 ∷ 6 ∷ [])
 abbrev spoiled : List ℕ
 spoiled = besides (1 ∷ 8 ∷ 9 ∷ 5 ∷ 6 ∷ 11 ∷ 10 ∷ 2 ∷ [])
 
+-- the corners of a box at zero on axis i; and the cell's corner 6 drawn onto corner 0
+abbrev side : ℕ → ℕ → ℕ → ℤ
+side i long k = cond (upper k i) (pos long) (pos 0)
+
+abbrev drawn : ℕ → ℕ → ℤ
+drawn i k = cond (eqb k 6) (side i 1 0) (side i 1 k)
+
+-- the demo's block, axis by axis
+abbrev along : List ℕ → ℕ → ℤ
+along x k = pos (getD x k 0)
+
+abbrev block : ℤ
+block =
+    volume216 (along (0 ∷ 4 ∷ 5 ∷ 0 ∷ 0 ∷ 4 ∷ 5 ∷ 0 ∷ [])) (along (0 ∷ 0 ∷ 3 ∷ 3 ∷ 0 ∷ 1 ∷ 4 ∷ 3 ∷ [])) (along (0 ∷ 0 ∷ 0 ∷ 1 ∷ 6 ∷ 6 ∷ 7 ∷ 6 ∷ []))
+
+-- the file of the cube [0,2]^3, which is crates/hexvol/stdin: its upper sides are at 0x4000_0000_0000_0000
+abbrev cubeFile : List ℕ
+cubeFile =
+    fileOf (meshOfLists (grid 8 3 (λ (k i : ℕ). cond (upper k i) 0x4000_0000_0000_0000 0)) (tabulate 8 (λ (k : ℕ). k)))
+
 abbrev pub examples : List Example
 examples =
     -- "P1 Hex shape at (1,1,1): 1 at node 6, +0 elsewhere. P2 Prism at (0,0,1): 1 at node 3."
@@ -167,6 +191,13 @@ examples =
     ∷ requested 2 (number (answered (nextBy sameNodes 12 spoiled))) (number (answered 47))
     ∷ requested 2 (number (refined 12 spoiled 128)) (number (refused 14))
     ∷ requested 2 (number (refined 12 spoiled 127)) (number (refused 8))
+    -- 3/12: the cube [0,2]^3 prints `0 1728`, `total 1728`, `first none`; the box 1 by 2 by 3; the unit cube with corner 6 drawn onto corner 0; the block
+    ∷ requested 3 (file (answered (printed cubeFile)))
+    (file (answered (48 ∷ 32 ∷ 49 ∷ 55 ∷ 50 ∷ 56 ∷ 10 ∷ 116 ∷ 111 ∷ 116 ∷ 97 ∷ 108 ∷ 32 ∷ 49 ∷ 55 ∷ 50 ∷ 56 ∷ 10
+    ∷ 102 ∷ 105 ∷ 114 ∷ 115 ∷ 116 ∷ 32 ∷ 110 ∷ 111 ∷ 110 ∷ 101 ∷ 10 ∷ [])))
+    ∷ requested 3 (whole (volume216 (side 0 1) (side 1 2) (side 2 3))) (whole (pos 1296))
+    ∷ requested 3 (whole (volume216 (drawn 0) (drawn 1) (drawn 2))) (whole (pos 54))
+    ∷ requested 3 (whole block) (whole (pos 16920))
     ∷ []
 
 -- "The P examples are one list with a single proved claim on the definitions"
