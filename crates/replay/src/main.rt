@@ -1,6 +1,7 @@
 // Replays the stored answers of the Rust and of the second program (oracle/README.md, oracle/second/README.md). Standard input is records in two
-// parts, with four zero bytes between. Of the first part it prints how many are answered as they were. The second has meshes, paths, files, and lists
-// to write as files: it prints what is answered and left in the lent lists, and stdout holds the second program's own answers.
+// parts, with four zero bytes between. Of the first part it prints how many are answered as they were. The second has meshes, paths, files, lists to
+// write as files, and files whose volumes are reported: it prints what is answered and left in the lent lists, and stdout holds the second program's
+// own answers.
 mod cases;
 
 use descendant::Descended;
@@ -9,6 +10,7 @@ use hxm_write::Writing;
 use libc::STDIN_FILENO;
 use libc::STDOUT_FILENO;
 use refine::Refined;
+use volume_report::Reported;
 ghost use Prim.Native.Nat.{_+_, _≤_, _<_};
 ghost use mathlib.Core.Path.{_≡_};
 ghost use lib.ListN.{length};
@@ -319,6 +321,47 @@ fn lists(stored: &Record) {
     write_lists(nodes, words, cells, count, room);
 }
 
+// The 64 bits of a whole number, as one that is not below zero.
+fn unsigned(x: i64) -> u64 {
+    if x < 0 {
+        0xffff_ffff_ffff_ffff - ((-1 - x) as u64)
+    } else {
+        x as u64
+    }
+}
+
+fn say_reported(found: Reported) {
+    match found {
+        Reported::Volumes(total, cells, first) => {
+            say(unsigned(total));
+            say(cells as u64);
+            say(first as u64);
+        }
+        Reported::Refused(number) => say_refused(number),
+    }
+}
+
+// The first n numbers of a list.
+fn say_volumes(volumes: [i64; 192], n: usize)
+    requires { ⌜ n ≤ 192 ⌝ }
+{
+    let mut i = 0usize;
+    while i < n {
+        say(unsigned(volumes[i]));
+        i += 1;
+    }
+}
+
+// A file to report: the lengths of its bytes and of the list of volumes, and the bytes. Tells what is then in the first numbers of the list.
+fn report(stored: &Record) {
+    let bytes = &stored[..];
+    let end = 20 + length_at(stored, 0, 2024);
+    let room = length_at(stored, 1, 192);
+    let mut volumes = [7i64; 192];
+    say_reported(volume_report::report(&bytes[20..end], &mut volumes[0..room]));
+    say_volumes(volumes, least(room, 60));
+}
+
 // Whether a record is answered as it was: 1 or 0.
 fn agreeing(stored: &Record) -> u64
     ensures { λ r. ⌜ r ≤ 1 ⌝ }
@@ -353,6 +396,7 @@ fn tell() {
             27 => path(&stored),
             28 => file(&stored),
             29 => lists(&stored),
+            30 => report(&stored),
             _ => break,
         }
         io::write_all(STDOUT_FILENO, b"\n");
