@@ -8,11 +8,18 @@ use libc::STDIN_FILENO;
 use libc::STDOUT_FILENO;
 use probe::Checked;
 use refine::Refined;
+use volume_report::Reported;
 ghost use Prim.Native.Nat.{_≤_, _<_};
 ghost use lib.ListN.{length};
 
 // The two cells of document 01's example, which share a face.
 const TWO_CELLS: [u32; 16] = [0, 1, 2, 3, 4, 5, 6, 7, 1, 8, 9, 2, 5, 11, 10, 6];
+
+// A cell and its mirror.
+const MIRRORED: [u32; 16] = [0, 1, 2, 3, 4, 5, 6, 7, 0, 3, 2, 1, 4, 7, 6, 5];
+
+// A cell, and the same with nodes 2 and 3 exchanged: they have a twisted face.
+const EXCHANGED: [u32; 16] = [0, 1, 2, 3, 4, 5, 6, 7, 0, 1, 3, 2, 4, 5, 6, 7];
 
 // The second of these cells has face 1, 2, 6, 5 of the first one too, but goes round it 5, 1, 6, 2. Behind them stands a cell that is good.
 const TWISTED: [u32; 24] = [
@@ -42,6 +49,15 @@ const TWISTED: [u32; 24] = [
     7,
 ];
 
+// Coordinates by their bits: 2, a half, and the ends of the grid, 1,024 and minus that.
+const TWO: u64 = 0x4000_0000_0000_0000;
+
+const HALF: u64 = 0x3fe0_0000_0000_0000;
+
+const MOST: u64 = 0x4090_0000_0000_0000;
+
+const LEAST: u64 = 0xc090_0000_0000_0000;
+
 fn say(number: u32) {
     io::write_all(STDOUT_FILENO, b" ");
     io::print_decimal(STDOUT_FILENO, number as u64);
@@ -55,9 +71,13 @@ fn end_line() {
     io::write_all(STDOUT_FILENO, b"\n");
 }
 
-fn say_refused(number: u32) {
+fn say_refusal(number: u32) {
     io::write_all(STDOUT_FILENO, b" refused");
     say(number);
+}
+
+fn say_refused(number: u32) {
+    say_refusal(number);
     end_line();
 }
 
@@ -142,25 +162,31 @@ fn say_refined(found: Refined) {
     }
 }
 
-fn say_signed(x: i32) {
-    if x == 0 {
-        io::write_all(STDOUT_FILENO, b" 0");
-    } else if x == 1 {
-        io::write_all(STDOUT_FILENO, b" 1");
-    } else if x == -1 {
-        io::write_all(STDOUT_FILENO, b" -1");
+// A whole number without its sign.
+fn size(x: i64) -> u64 {
+    if x < 0 { (-1 - x) as u64 + 1 } else { x as u64 }
+}
+
+fn say_signed(x: i64) {
+    if x < 0 {
+        io::write_all(STDOUT_FILENO, b" -");
     } else {
-        io::write_all(STDOUT_FILENO, b" another");
+        io::write_all(STDOUT_FILENO, b" ");
     }
+    io::print_decimal(STDOUT_FILENO, size(x));
+}
+
+fn wide(x: i32) -> i64 {
+    x as i64
 }
 
 fn descend(label: &[u8], path: &[u32], corner: u32) {
     io::write_all(STDOUT_FILENO, label);
     match descendant::descendant(path, corner) {
         Descended::At(x, y, z) => {
-            say_signed(x);
-            say_signed(y);
-            say_signed(z);
+            say_signed(wide(x));
+            say_signed(wide(y));
+            say_signed(wide(z));
             end_line();
         }
         Descended::Refused(number) => say_refused(number),
@@ -260,8 +286,8 @@ fn twisted() {
 
 fn neighbours() {
     let twice = [0, 1, 2, 3, 4, 5, 6, 7, 0, 1, 2, 3, 4, 5, 6, 7];
-    let mirrored = [0, 1, 2, 3, 4, 5, 6, 7, 0, 3, 2, 1, 4, 7, 6, 5];
-    let exchanged = [0, 1, 2, 3, 4, 5, 6, 7, 0, 1, 3, 2, 4, 5, 6, 7];
+    let mirrored = MIRRORED;
+    let exchanged = EXCHANGED;
     let three = [0, 1, 2, 3, 4, 5, 6, 7, 1, 2, 6, 12, 8, 9, 10, 11];
     refine(b"a cell twice:", 8, &twice);
     refine(b"a cell and its mirror:", 8, &mirrored);
@@ -418,6 +444,162 @@ fn unwritten() {
     write(b"room for 237 bytes:", 24, 8, 7, 237);
 }
 
+fn say_reported(found: Reported) {
+    match found {
+        Reported::Volumes(total, cells, first) => {
+            io::write_all(STDOUT_FILENO, b" total");
+            say_signed(total);
+            io::write_all(STDOUT_FILENO, b" cells");
+            say(cells);
+            io::write_all(STDOUT_FILENO, b" first");
+            say(first);
+        }
+        Reported::Refused(number) => say_refusal(number),
+    }
+}
+
+// Reports a file into a list with room for so many volumes; and what then stands at the list's start, where it held 7.
+fn report_file(label: &[u8], bytes: &[u8], room: usize)
+    requires { ⌜ room ≤ 128 ⌝ }
+{
+    let mut volumes = [7i64; 128];
+    io::write_all(STDOUT_FILENO, label);
+    say_reported(volume_report::report(bytes, &mut volumes[0..room]));
+    io::write_all(STDOUT_FILENO, b" list");
+    say_signed(volumes[0]);
+    say_signed(volumes[1]);
+    end_line();
+}
+
+// Reports the file of a mesh.
+fn report(label: &[u8], nodes: &[u64], cells: &[u32], room: usize)
+    requires { ⌜ (length (now nodes) ≤ 24) × (length (now cells) ≤ 1024) × (room ≤ 128) ⌝ }
+{
+    let mut file = [0u8; 4301];
+    hxm_write::write(nodes, cells, &mut file);
+    report_file(
+        label,
+        &file[0..13 + 8 * nodes.len() + 4 * cells.len()],
+        room,
+    );
+}
+
+// The nodes of the box from `low` to `high` along x and y, and from `low` to `top` along z.
+fn box_nodes(low: u64, high: u64, top: u64) -> [u64; 24] {
+    [
+        low,
+        low,
+        low,
+        high,
+        low,
+        low,
+        high,
+        high,
+        low,
+        low,
+        high,
+        low,
+        low,
+        low,
+        top,
+        high,
+        low,
+        top,
+        high,
+        high,
+        top,
+        low,
+        high,
+        top,
+    ]
+}
+
+// The nodes of the cube [0,2], but for the x of node 0.
+fn cube_with(x: u64) -> [u64; 24] {
+    let mut nodes = box_nodes(0, TWO, TWO);
+    nodes[0] = x;
+    nodes
+}
+
+// The cell 0..7, 128 times.
+fn full() -> [u32; 1024] {
+    let mut cells = [0u32; 1024];
+    for i in 0..1024usize {
+        cells[i] = (i % 8) as u32;
+    }
+    cells
+}
+
+fn report_cubes() {
+    let cell = TWO_CELLS;
+    let mirrored = MIRRORED;
+    let exchanged = EXCHANGED;
+    let cube = box_nodes(0, TWO, TWO);
+    let flat = box_nodes(0, TWO, 0);
+    report(b"volumes of the cube [0,2]:", &cube, &cell[0..8], 2);
+    report(b"of it and its mirror:", &cube, &mirrored, 2);
+    report(b"of a pair with a twisted face:", &cube, &exchanged, 2);
+    report(b"of the cube with z = 0:", &flat, &cell[0..8], 2);
+}
+
+fn report_no_cells() {
+    let none = [0u32; 1];
+    let nodes = cube_with(HALF);
+    report(b"of no node and no cell:", &nodes[0..0], &none[0..0], 2);
+    report(
+        b"of an unused node (0.5,0,0):",
+        &nodes[0..3],
+        &none[0..0],
+        2,
+    );
+}
+
+fn report_largest() {
+    let cells = full();
+    let cube = box_nodes(LEAST, MOST, MOST);
+    let negated = box_nodes(MOST, LEAST, LEAST);
+    report(b"of the cube [-1024,1024]:", &cube, &cells[0..8], 2);
+    report(b"of 128 such cells:", &cube, &cells, 128);
+    report(b"with every corner negated:", &negated, &cells, 128);
+}
+
+// Reports the cube [0,2], but for the x of node 0.
+fn report_with(label: &[u8], x: u64, room: usize)
+    requires { ⌜ room ≤ 128 ⌝ }
+{
+    let cell = TWO_CELLS;
+    let nodes = cube_with(x);
+    report(label, &nodes, &cell[0..8], room);
+}
+
+// Reports a file of the cube and its mirror, with 0.5 in node 0, whose last node number is `last`.
+fn report_with_last(label: &[u8], last: u8) {
+    let cells = MIRRORED;
+    let nodes = cube_with(HALF);
+    let mut file = [0u8; 269];
+    hxm_write::write(&nodes, &cells, &mut file);
+    file[265] = last;
+    report_file(label, &file, 2);
+}
+
+fn reported() {
+    report_cubes();
+    report_no_cells();
+    report_largest();
+    report_with(b"1,024 in node 0:", MOST, 2);
+    report_with(b"minus zero in node 0:", 0x8000_0000_0000_0000, 2);
+    report_with(b"the float above 1,024:", 0x4090_0000_0000_0001, 2);
+    report_with(b"1,025:", 0x4090_0400_0000_0000, 2);
+    report_with(b"0.5:", HALF, 2);
+    report_with(b"the float above zero:", 1, 2);
+    report_with(b"infinity:", 0x7ff0_0000_0000_0000, 2);
+    report_with(b"a NaN:", 0x7ff0_0000_0000_0001, 2);
+    report_with_last(b"0.5, and node 8 of 8 in the second cell:", 8);
+    report_with_last(b"0.5, and node 6 twice in the second cell:", 6);
+    report_with(b"0.5, and a list of no length:", HALF, 0);
+    report_with(b"a list of no length:", 0, 0);
+}
+
 fn main() {
     located();
     shared_face();
@@ -448,4 +630,5 @@ fn main() {
     unwritten();
     twisted_file();
     file(b"12 bytes: ");
+    reported();
 }
