@@ -323,10 +323,11 @@ fn lists(stored: &Record) {
 
 // The 64 bits of a whole number, as one that is not below zero.
 fn unsigned(x: i64) -> u64 {
+    let size = text::size(x);
     if x < 0 {
-        0xffff_ffff_ffff_ffff - ((-1 - x) as u64)
+        std::num::wrapping_sub_u64(0, size)
     } else {
-        x as u64
+        size
     }
 }
 

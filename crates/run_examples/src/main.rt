@@ -162,18 +162,13 @@ fn say_refined(found: Refined) {
     }
 }
 
-// A whole number without its sign.
-fn size(x: i64) -> u64 {
-    if x < 0 { (-1 - x) as u64 + 1 } else { x as u64 }
-}
-
 fn say_signed(x: i64) {
     if x < 0 {
         io::write_all(STDOUT_FILENO, b" -");
     } else {
         io::write_all(STDOUT_FILENO, b" ");
     }
-    io::print_decimal(STDOUT_FILENO, size(x));
+    io::print_decimal(STDOUT_FILENO, text::size(x));
 }
 
 fn wide(x: i32) -> i64 {

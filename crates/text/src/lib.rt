@@ -52,7 +52,7 @@ pub fn put_decimal(out: &mut [u8], at: usize, x: u64) -> usize
 }
 
 // A number without its sign. The least has no size of its own type: one is added to it first, and to its size at the end.
-fn size(x: i64) -> u64
+pub fn size(x: i64) -> u64
     ensures { λ r. ⌜ r ≡ natAbs x ⌝ }
 {
     if x >= 0 {
