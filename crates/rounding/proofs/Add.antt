@@ -34,7 +34,7 @@ round-scaled f s n c m C M = round-same f s (n * m) (c * m) n c (mul-pos C M) C 
 sub-scaled : (a b m : ℕ) → a * m - b * m ≡ (a - b) * m
 sub-scaled a b m = ap₂ (λ (x y : ℕ). x - y) (mul-comm a m) (mul-comm b m) ∙ sym (mul-sub m a b) ∙ mul-comm m (a - b)
 
-sum-scaled : (f : Format) (s : Bool) (a : ℕ) (t : Bool) (b c m : ℕ) → 0 < c → 0 < m → sum f s (a * m) t (b * m) (c * m) ≡ sum f s a t b c
+pub sum-scaled : (f : Format) (s : Bool) (a : ℕ) (t : Bool) (b c m : ℕ) → 0 < c → 0 < m → sum f s (a * m) t (b * m) (c * m) ≡ sum f s a t b c
 unfolding sum
 sum-scaled f s a t b c m C M = simp (ltb-scaled a b m M, ltb-scaled b a m M, ← add-mul, sub-scaled, round-scaled)
 
