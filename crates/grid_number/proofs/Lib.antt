@@ -1,3 +1,5 @@
 pub mod Units
 pub mod Word
+pub mod Wholes
+pub mod Rounded
 pub mod Small
