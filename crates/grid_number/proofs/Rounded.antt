@@ -95,7 +95,7 @@ then-equals (negsuc k) true g b q l apart exact =
 
 -- ---- 1.5 times 2 ^ 52 put on a float, and taken off again
 abbrev base : ℕ
-base = 6755399441055744
+base = 3 * 2 ^ 51
 
 abbrev pub wholes : Float
 wholes = fin false 3 (pos 51)

@@ -36,7 +36,7 @@ abbrev negative : ℕ → Bool
 negative word = leb (2 ^ 63) word
 
 -- the bits of 1,024
-abbrev limit : ℕ
+abbrev pub limit : ℕ
 limit = 0x4090_0000_0000_0000
 
 -- a finite float of size at most 1,024

@@ -15,7 +15,7 @@ use mir.Facts.{toZ-ofZ}
 use Rattle.answer.specs.Answer.{answered, refused}
 use Rattle.rounding.proofs.Units.{Held}
 use Rattle.grid_number.specs.Grid.{gridNumber}
-use Rattle.grid_number.proofs.Word.{small, of-more}
+use Rattle.grid_number.proofs.Word.{limit, small, of-more}
 use Rattle.grid_number.proofs.Rounded.{rounded, fits-cast, equal, unequal}
 use Rattle.grid_number.proofs.grid_number.Statement.{statement}
 use Rattle.grid_number.proofs.grid_number.Tie as tie
@@ -24,7 +24,7 @@ returns : tie.Need-returns
 returns c = sym (of-more (c .before .args .word) (omega (arith, c .if1 .taken)))
 
 -- a word that the first test lets through
-module _ (word : ℕ) (few : word % 2 ^ 63 ≤ 0x4090_0000_0000_0000) where
+module _ (word : ℕ) (few : word % 2 ^ 63 ≤ limit) where
   abbrev float : Float
   float = ofBits binary64 word
 
