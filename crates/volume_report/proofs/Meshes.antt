@@ -18,7 +18,7 @@ use Rattle.hxm.specs.Format.{Mesh, nodeCount, cellCount, meshAt, meshOf, faultO
 use Rattle.hxm.proofs.Ladder.{Counted, passed-accepted}
 use Rattle.volume_report.specs.Report.{Report, gridNumbers, volumesOf, total, firstNotAbove, meshReport, roomFor, reportOf, reportInto, volumesIn}
 use Rattle.volume_report.specs.Told.{Summary, summaryOf}
-use Rattle.volume_report.specs.Sized.{OnGrid}
+use Rattle.volume_report.specs.Sized.{OnGrid, Written}
 use Rattle.volume_report.proofs.Cells.{volumes-long, volumes-small}
 use Rattle.volume_report.proofs.Words.{numbers-long, numbers-small}
 
@@ -35,33 +35,33 @@ module _ (numbers : List ℤ) (cells : List ℕ) (n : ℕ) (old : List ℤ) wher
   pub no-room : length old < n → Reports (roomFor (length old) (meshReport numbers cells n)) (refused 8) old old
   no-room short = refuses _ 8 old (rw (volumes-long numbers cells n, lt-ltb (length old) n short))
 
-  module _ (new : List ℤ) (written : new ≡ volumesOf numbers cells n ++ drop n old) where
-    pub head-is : take n new ≡ volumesOf numbers cells n
-    head-is = ap (take n) written ∙ take-at (volumesOf numbers cells n) (drop n old) n (volumes-long numbers cells n)
+module _ {numbers : List ℤ} {cells : List ℕ} {n : ℕ} {old new : List ℤ} (written : Written numbers cells n old new) where
+  head-is : take n new ≡ volumesOf numbers cells n
+  head-is = ap (take n) (written .is) ∙ take-at (volumesOf numbers cells n) (drop n old) n (volumes-long numbers cells n)
 
-    pub head-long : length (take n new) ≡ n
-    head-long = ap length head-is ∙ volumes-long numbers cells n
+  pub head-long : length (take n new) ≡ n
+  head-long = ap length head-is ∙ volumes-long numbers cells n
 
-    pub head-small : EachWithin 1024 numbers → EachWithin 5566277615616 (take n new)
-    head-small small = subst⁻¹ (EachWithin 5566277615616) head-is (volumes-small numbers cells n small)
+  pub head-small : EachWithin 1024 numbers → EachWithin 5566277615616 (take n new)
+  head-small small = subst⁻¹ (EachWithin 5566277615616) head-is (volumes-small numbers cells n small)
 
-    pub first-within : (first : ℕ) → first ≡ firstNotAbove (take n new) → first ≤ n
-    first-within first e = omega (arith, e, head-long, least-least (length (take n new)) (λ (k : ℕ). leZ (getD (take n new) k (pos 0)) (pos 0)) .within)
+  pub first-within : (first : ℕ) → first ≡ firstNotAbove (take n new) → first ≤ n
+  first-within first e = omega (arith, e, head-long, least-least (length (take n new)) (λ (k : ℕ). leZ (getD (take n new) k (pos 0)) (pos 0)) .within)
 
-    pub mesh-reported : (sum : ℤ) (first : ℕ) → n ≤ length old → sum ≡ total (take n new) → first ≡ firstNotAbove (take n new)
-        → Reports (roomFor (length old) (meshReport numbers cells n)) (answered (record { total = sum; cells = n; first = first })) old new
-    mesh-reported sum first room s f =
-        let long = volumes-long numbers cells n in
-        let sum-is : sum ≡ total (volumesOf numbers cells n) = s ∙ ap total head-is in
-        let first-is : first ≡ firstNotAbove (volumesOf numbers cells n) = f ∙ ap firstNotAbove head-is in
-        let enough : roomFor (length old) (meshReport numbers cells n) ≡ answered (meshReport numbers cells n) =
-        rw (long, le-ltb (length old) n room) refl
-        in
-        subst⁻¹ (λ (a : Answer Report). Reports a (answered (record { total = sum; cells = n; first = first })) old new) enough
-        (record {
-          told = λ i. answered (record { total = sum-is i; cells = sym long i; first = first-is i });
-          output = written ∙ ap (λ (k : ℕ). volumesOf numbers cells n ++ drop k old) (sym long);
-        })
+  pub mesh-reported : (sum : ℤ) (first : ℕ) → n ≤ length old → sum ≡ total (take n new) → first ≡ firstNotAbove (take n new)
+      → Reports (roomFor (length old) (meshReport numbers cells n)) (answered (record { total = sum; cells = n; first = first })) old new
+  mesh-reported sum first room s f =
+      let long = volumes-long numbers cells n in
+      let sum-is : sum ≡ total (volumesOf numbers cells n) = s ∙ ap total head-is in
+      let first-is : first ≡ firstNotAbove (volumesOf numbers cells n) = f ∙ ap firstNotAbove head-is in
+      let enough : roomFor (length old) (meshReport numbers cells n) ≡ answered (meshReport numbers cells n) =
+      rw (long, le-ltb (length old) n room) refl
+      in
+      subst⁻¹ (λ (a : Answer Report). Reports a (answered (record { total = sum; cells = n; first = first })) old new) enough
+      (record {
+        told = λ i. answered (record { total = sum-is i; cells = sym long i; first = first-is i });
+        output = written .is ∙ ap (λ (k : ℕ). volumesOf numbers cells n ++ drop k old) (sym long);
+      })
 
 -- ---- a file
 module _ (s : List ℕ) (n c : ℕ) (file : Counted s n c) (room : ℕ) where
@@ -77,8 +77,8 @@ module _ (s : List ℕ) (n c : ℕ) (file : Counted s n c) (room : ℕ) where
   unfolding meshAt
   cells-is = file .cells
 
-  pub on-file : (words : List ℕ) (numbers : List ℤ) (cells : List ℕ) → words ≡ meshAt s .coords → cells ≡ meshAt s .corners → gridNumbers words ≡ answered numbers
-      → reportInto room s ≡ roomFor room (meshReport numbers cells c)
+  pub on-file : (words : List ℕ) (numbers : List ℤ) (cells : List ℕ) → words ≡ meshAt s .coords → cells ≡ meshAt s .corners
+      → gridNumbers words ≡ answered numbers → reportInto room s ≡ roomFor room (meshReport numbers cells c)
   unfolding reportInto reportOf
   on-file words numbers cells w k e =
       let all : gridNumbers (meshAt s .coords) ≡ answered numbers = ap gridNumbers (sym w) ∙ e in

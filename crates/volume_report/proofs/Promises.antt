@@ -21,7 +21,7 @@ use Rattle.integers.proofs.Ring.{plus-left-swap}
 use Rattle.integers.proofs.Sizes.{within-add}
 use Rattle.hxm.specs.Format.{Mesh, meshAt, meshOf}
 use Rattle.hxm.proofs.Ladder.{Passed, accepted-passed}
-use Rattle.volume_report.specs.Report.{Report, gridNumbers, cellVolume, cellsOf, total, firstNotAbove, reportOn, meshReport, roomFor, reportOf, reportInto}
+use Rattle.volume_report.specs.Report.{Report, gridNumbers, cellVolume, cellsOf, total, reportOn, meshReport, roomFor, reportOf, reportInto}
 use Rattle.volume_report.specs.Report.{TotalIsTheSum, First, FirstIsTheFirst, TotalInAnyOrder, Fits, ReportFits}
 use Rattle.volume_report.specs.Told.{ToldLosesNothing}
 use Rattle.volume_report.specs.declared.Reported.the-variants.{Volumes, Refused}
@@ -94,13 +94,12 @@ total-in-any-order s t m n r q fs ft es et coords order =
     let second : b .mesh ≡ n = answered-same (sym (b .file) ∙ ft) in
     let words : a .mesh .coords ≡ b .mesh .coords = ap (λ (x : Mesh). x .coords) first ∙ coords ∙ sym (ap (λ (x : Mesh). x .coords) second) in
     let numbers : a .numbers ≡ b .numbers = answered-same (sym (a .on-grid) ∙ ap gridNumbers words ∙ b .on-grid) in
-    let same : total (map (cellVolume (a .numbers)) (cellsOf (m .corners) (m .cells))) ≡ total (map (cellVolume (a .numbers)) (cellsOf (n .corners) (n .cells))) =
-    ∥∥₁-elim order (ℤ-set _ _) (λ d. total-reordered (cellVolume (a .numbers)) d)
-    in
+    let volumes : Mesh → ℤ = λ x. total (map (cellVolume (a .numbers)) (cellsOf (x .corners) (x .cells))) in
+    let same : volumes m ≡ volumes n = ∥∥₁-elim order (ℤ-set _ _) (λ d. total-reordered (cellVolume (a .numbers)) d) in
     ap (λ (x : Report). x .total) (a .is)
-    ∙ ap (λ (x : Mesh). total (map (cellVolume (a .numbers)) (cellsOf (x .corners) (x .cells)))) first
+    ∙ ap volumes first
     ∙ same
-    ∙ ap (λ (x : Mesh). total (map (cellVolume (a .numbers)) (cellsOf (x .corners) (x .cells)))) (sym second)
+    ∙ ap volumes (sym second)
     ∙ ap (λ (l : List ℤ). total (map (cellVolume l) (cellsOf (b .mesh .corners) (b .mesh .cells)))) numbers
     ∙ sym (ap (λ (x : Report). x .total) (b .is))
 
@@ -129,8 +128,8 @@ report-fits s r e =
     let file = accepted-passed s (b .mesh) (b .file) in
     let cells : b .mesh .cells ≤ 128 = subst (λ (m : Mesh). m .cells ≤ 128) (file .1) (few-cells s (file .0)) in
     let long = volumes-long (b .numbers) (b .mesh .corners) (b .mesh .cells) in
-    subst⁻¹ Fits (b .is)
-    (fits-of _ (omega (arith, long, cells)) (volumes-small (b .numbers) (b .mesh .corners) (b .mesh .cells) (numbers-small (b .mesh .coords) (b .numbers) (b .on-grid))))
+    let small = numbers-small (b .mesh .coords) (b .numbers) (b .on-grid) in
+    subst⁻¹ Fits (b .is) (fits-of _ (omega (arith, long, cells)) (volumes-small (b .numbers) (b .mesh .corners) (b .mesh .cells) small))
 
 -- a list with room for the most cells is never too short
 pub enough-volumes : (room : ℕ) (s : List ℕ) → 128 ≤ room → reportInto room s ≡ reportOf s

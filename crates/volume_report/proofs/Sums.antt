@@ -33,7 +33,8 @@ summed-all {volumes} {c} {s} h all =
     let nothing : drop c volumes ≡ [] = ap (λ (n : ℕ). drop n volumes) last ∙ drop-length volumes in
     sym (+ℤ-idr s) ∙ ap (λ (l : List ℤ). s +ℤ total l) (sym nothing) ∙ h .rest
 
-module _ (volumes : List ℤ) (sized : EachWithin most volumes) (few : length volumes ≤ 128) (c : ℕ) (s : ℤ) (h : Summed volumes c s) (more : c < length volumes) where
+module _ (volumes : List ℤ) (sized : EachWithin most volumes) (few : length volumes ≤ 128) (c : ℕ) (s : ℤ) (h : Summed volumes c s)
+    (more : c < length volumes) where
   abbrev volume : ℤ
   volume = getD volumes c (pos 0)
 

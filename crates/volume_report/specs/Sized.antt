@@ -1,12 +1,13 @@
--- What the steps of a cell's volume give and how large it is, so that no step leaves 64 bits. Definitions only.
+-- What the report's private functions give: the steps of a cell's volume and how large each is, so that none leaves 64 bits. Definitions only.
 use Prim.Native.Nat.{ℕ, _+_, _*_, _≤_, _<_}
 use mathlib.Core.Path.{_≡_}
-use mathlib.Core.List.{List, [], _∷_}
+use mathlib.Core.List.{List, [], _∷_, _++_}
 use lib.IntN.{ℤ, pos}
-use lib.ListN.{length, getD}
+use lib.ListN.{length, getD, drop}
 use Rattle.integers.specs.Integers.{integers}
 use Rattle.integers.specs.Sizes.{Within, EachWithin}
 use Rattle.exact_volume.specs.Determinants.{along}
+use Rattle.volume_report.specs.Report.{volumesOf}
 
 -- number k of a list, as a coordinate of corner k
 abbrev pub at : List ℤ → ℕ → ℤ
@@ -32,3 +33,7 @@ pub record Part (z r : ℤ) : Type 0 where
 pub record OnGrid (numbers : List ℤ) (cells : List ℕ) : Type 0 where
   pub small : EachWithin 1024 numbers
   pub named : (j : ℕ) → j < length cells → 3 * getD cells j 0 + 3 ≤ length numbers
+
+-- a list before and after, where the volumes of n cells were written
+pub record Written (numbers : List ℤ) (cells : List ℕ) (n : ℕ) (old new : List ℤ) : Type 0 where
+  pub is : new ≡ volumesOf numbers cells n ++ drop n old

@@ -7,10 +7,10 @@ use hxm::NODE_WORDS;
 use hxm::Reading;
 ghost use mathlib.Core.Path.{_≡_};
 ghost use mathlib.Core.Bool.{cond};
-ghost use mathlib.Core.List.{[], _∷_, _++_, map};
+ghost use mathlib.Core.List.{[], _∷_};
 ghost use Prim.Native.Nat.{_+_, _*_, _/_, _<_, _≤_};
 ghost use lib.IntN.{pos};
-ghost use lib.ListN.{length, take, drop};
+ghost use lib.ListN.{length, take};
 ghost use Rattle.numbers.specs.Rule.{tabulate};
 ghost use Rattle.answer.specs.Answer.{answered, refused, left};
 ghost use Rattle.integers.specs.Integers.{integers};
@@ -18,9 +18,9 @@ ghost use Rattle.integers.specs.Sizes.{EachWithin};
 ghost use Rattle.mat3_col_major.specs.Mat3.{detIn};
 ghost use Rattle.exact_volume.specs.Volume.{volume216};
 ghost use Rattle.exact_volume.specs.Determinants.{part};
-ghost use Rattle.volume_report.specs.Report.{gridNumbers, cellAt, cornerOf, cellVolume, total, firstNotAbove, meshReport, roomFor, reportInto, volumesIn, volumesOf};
+ghost use Rattle.volume_report.specs.Report.{gridNumbers, cellAt, cornerOf, cellVolume, total, firstNotAbove, meshReport, roomFor, reportInto, volumesIn};
 ghost use Rattle.volume_report.specs.Told.{told, summaryOf};
-ghost use Rattle.volume_report.specs.Sized.{at, Differences, Row, Part, OnGrid};
+ghost use Rattle.volume_report.specs.Sized.{at, Differences, Row, Part, OnGrid, Written};
 
 // The total, the number of cells and the first cell that is not above zero, or a refusal's number.
 pub enum Reported {
@@ -135,7 +135,7 @@ fn cell_volume(numbers: &[i64], cells: &[u32], c: usize) -> i64
 // Writes the volume of each of so many cells.
 fn put_volumes(numbers: &[i64], cells: &[u32], count: usize, out: &mut [i64])
     requires { ⌜ OnGrid (now numbers) (now cells) × (8 * count ≤ length (now cells)) × (count ≤ length (now out)) ⌝ }
-    ensures { λ _. ⌜ now (out .exit) ≡ volumesOf (now (numbers .entry)) (now (cells .entry)) count ++ drop count (now (out .entry)) ⌝ }
+    ensures { λ _. ⌜ Written (now (numbers .entry)) (now (cells .entry)) count (now (out .entry)) (now (out .exit)) ⌝ }
 {
     let mut c: usize = 0;
     while c < count {

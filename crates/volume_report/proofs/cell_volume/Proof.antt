@@ -12,7 +12,10 @@ returns c =
     let second = third .before in
     let args = second .before .before .before .args in
     toZ-ofZ (record { sfits = c .volume .ok }) ∙ c .volume .ensures
-    ∙ cell-volume-is (args .numbers .now) (args .cells .now) (args .c) _ _ _ (second .before .corners .ensures .0) (second .corners2 .ensures .0) (third .corners3 .ensures .0)
+    ∙ cell-volume-is (args .numbers .now) (args .cells .now) (args .c) _ _ _
+    (second .before .corners .ensures .0)
+    (second .corners2 .ensures .0)
+    (third .corners3 .ensures .0)
 
 pub cell-volume-spec : {M : Type 1} → statement M
 cell-volume-spec = tie.close (tie.spec (λ c κs. search needs) (λ c κs. search needs) (λ c κs. search needs) (λ c κs. search needs) returns)

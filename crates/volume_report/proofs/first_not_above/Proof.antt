@@ -29,7 +29,8 @@ returns : tie.Need-returns Inv-loop μ-loop
 returns c =
     let turn = c .before .before .before in
     let small = turn .before .pre .at (turn .loop .first) in
-    sym (least-is _ _ (turn .loop .first) (turn .loop .inv .0) (turn .loop .inv .1) (λ h. subst (λ (v : ℤ). leZ v (pos 0) ≡ true) (within-back tt small) (c .if1 .taken)))
+    let below = subst (λ (v : ℤ). leZ v (pos 0) ≡ true) (within-back tt small) (c .if1 .taken) in
+    sym (least-is _ _ (turn .loop .first) (turn .loop .inv .0) (turn .loop .inv .1) (λ h. below))
 
 loop-again : tie.Need-loop-again Inv-loop μ-loop
 loop-again c =

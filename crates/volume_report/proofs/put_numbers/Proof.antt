@@ -33,10 +33,11 @@ loop-again c =
     let turn = c .before .before .before .before .before .before in
     let words = turn .before .before .args .words .now in
     let answer = sym (c .before .before .before .grid-number .ensures) ∙ ap told (known .1) in
-    let same : back (known .0 .0) ≡ known .0 .0 = within-back tt (grid-small _ _ answer) in (
-      omega (arith, turn .loop .inv .0),
-      length-set (turn .loop .out) (turn .loop .i) _ ∙ turn .loop .inv .1,
-      numbers-more words (turn .loop .out) (turn .loop .i) (omega arith) (turn .loop .inv .2) _ (omega (arith, turn .loop .inv .1)) (answer ∙ ap answered (sym same)),
+    let same : back (known .0 .0) ≡ known .0 .0 = within-back tt (grid-small _ _ answer) in
+    let held = turn .loop .inv in (
+      omega (arith, held .0),
+      length-set (turn .loop .out) (turn .loop .i) _ ∙ held .1,
+      numbers-more words (turn .loop .out) (turn .loop .i) (omega arith) (held .2) _ (omega (arith, held .1)) (answer ∙ ap answered (sym same)),
     )
 
 returns : tie.Need-returns Inv-loop μ-loop

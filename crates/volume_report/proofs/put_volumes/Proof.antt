@@ -27,8 +27,8 @@ loop-again c =
 returns : tie.Need-returns Inv-loop μ-loop
 returns c =
     let args = c .before .before .before .args in
-    stores-all (c .before .loop .inv) (omega arith)
-    ∙ ap (λ (l : List ℤ). l ++ drop (args .count) (args .out .now)) (sym (volumes-by-cell (args .numbers .now) (args .cells .now) (args .count)))
+    let same = sym (volumes-by-cell (args .numbers .now) (args .cells .now) (args .count)) in
+    record { is = stores-all (c .before .loop .inv) (omega arith) ∙ ap (λ (l : List ℤ). l ++ drop (args .count) (args .out .now)) same }
 
 pub put-volumes-spec : {M : Type 1} → statement M
 put-volumes-spec =

@@ -82,8 +82,9 @@ module _ (c : tie.Else1) where
   reported : (room : ℕ) → roomFor room (meshReport grid corners (length corners / 8)) ≡ reportInto room (bytes known-of)
   reported room =
       let count : length corners / 8 ≡ cells known-of = omega (arith, found known-of .long) in
+      let file = found known-of .file in
       ap (λ (k : ℕ). roomFor room (meshReport grid corners k)) count
-      ∙ sym (on-file (bytes known-of) (nodes known-of) (cells known-of) (found known-of .file) room _ grid corners (words known-of .0) (found known-of .corners) numbers)
+      ∙ sym (on-file (bytes known-of) (nodes known-of) (cells known-of) file room _ grid corners (words known-of .0) (found known-of .corners) numbers)
 
 returns-2 : tie.Need-returns-2
 returns-2 c =
