@@ -4,7 +4,7 @@ use mathlib.Core.Path.{_≡_, refl, sym, _∙_, ap, subst, subst⁻¹}
 use mathlib.Core.List.{List, [], _∷_, _++_}
 use lib.ListN.{length, getD}
 use Rattle.answer.specs.Answer.{Answer, answered, refused, andThen, each, RefusesBy}
-use Rattle.answer.proofs.Answers.{answered-same, Answered, then-answered, refuses-then}
+use Rattle.answer.proofs.Answers.{answered-same, then-answered, refuses-then}
 
 module _ {A B : Type 0} (f : A → Answer B) where
   -- the first is answered, and so are the rest

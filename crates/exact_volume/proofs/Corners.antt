@@ -1,8 +1,8 @@
 -- Eight unknown corners on three axes, as variables of the solver; and what computes of the definition: the polynomials take the corners' values, and no power
 -- passes 2. Assumes nothing.
-use Prim.Native.Nat.{ℕ, _+_, _≤_, _<_}
+use Prim.Native.Nat.{ℕ, _+_}
 use mathlib.Core.Path.{_≡_}
-use mathlib.Core.List.{List, [], _∷_, _++_}
+use mathlib.Core.List.{List, _++_}
 use lib.IntN.{ℤ, pos}
 use Rattle.numbers.specs.Rule.{tabulate}
 use Rattle.numbers.proofs.Tabulate.{tabulate-same}

@@ -2,14 +2,14 @@
 use Prim.Native.Nat.{ℕ, zero, suc, _+_, _*_, _≤_, _<_}
 use mathlib.Core.Path.{_≡_}
 use mathlib.Core.Bool.{Bool, true, _&&_, cond}
-use mathlib.Core.List.{List, [], _∷_}
+use mathlib.Core.List.{[], _∷_}
 use lib.Dec.{T, leb}
 use lib.IntN.{ℤ, pos, negℤ, _+ℤ_, _*ℤ_}
 use Rattle.numbers.specs.Rule.{all}
 use Rattle.numbers.specs.Arithmetic.{Arithmetic}
 use Rattle.integers.specs.Integers.{integers}
 use Rattle.hex.specs.Cube.{upper}
-use Rattle.exact_volume.specs.Volume.{Term, Polynomial, axis, jacobian, weight, volume216}
+use Rattle.exact_volume.specs.Volume.{Polynomial, axis, jacobian, weight, volume216}
 
 module _ {A : Type 0} (a : Arithmetic A) where
   open Arithmetic a using (one, _⊕_, _⊗_)

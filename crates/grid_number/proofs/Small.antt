@@ -4,11 +4,11 @@ use mathlib.Core.Path.{_≡_, refl, subst}
 use mathlib.Core.Bool.{Bool, true, false, _&&_, cond}
 use mathlib.Core.List.{List}
 use lib.Dec.{T, eqb, leb, leb→le}
-use lib.IntN.{ℤ, pos, negℤ, natAbs}
+use lib.IntN.{ℤ}
 use lib.Ieee.{Float}
 use lib.Ieee.Scale.{finite}
-use Rattle.numbers.proofs.Tests.{first, second, holds}
-use Rattle.answer.specs.Answer.{Answer, answered, refused, isOneOf, RefusesBy}
+use Rattle.numbers.proofs.Tests.{second, holds}
+use Rattle.answer.specs.Answer.{answered, refused, isOneOf, RefusesBy}
 use Rattle.answer.proofs.Answers.{answered-same, never, refuses-else}
 use Rattle.integers.specs.Sizes.{Within}
 use Rattle.integers.proofs.Sizes.{within-self, within-neg, within-more}

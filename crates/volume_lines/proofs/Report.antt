@@ -1,7 +1,7 @@
 -- What is printed of a report's answer and output, and that a part of a long file is enough. Assumes nothing.
 use Prim.Native.Nat.{ℕ, _^_, _≤_, _<_}
 use native.Mathlib.Omega.{arith}
-use mathlib.Core.Path.{_≡_, refl, sym, _∙_, ap}
+use mathlib.Core.Path.{_≡_, sym, _∙_, ap}
 use mathlib.Core.List.{List, _++_}
 use lib.IntN.{ℤ, natAbs}
 use lib.ListN.{length, take, drop}

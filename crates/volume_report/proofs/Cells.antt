@@ -1,6 +1,5 @@
 -- The corners of a cell as the code reads them, and their sizes. Assumes nothing.
-use Prim.Native.Nat.{ℕ, _+_, _*_, _≤_, _<_}
-use native.Mathlib.Omega.{arith}
+use Prim.Native.Nat.{ℕ, _+_, _*_, _<_}
 use mathlib.Core.Path.{_≡_, sym, _∙_, ap, subst⁻¹}
 use mathlib.Core.List.{List}
 use lib.Dec.{lit≤}

@@ -2,7 +2,6 @@
 use Prim.Native.Nat.{ℕ, _+_, _*_, _/_, _%_, _≤_, _<_}
 use native.Mathlib.Omega.{arith}
 use mathlib.Core.Path.{_≡_, refl, sym, _∙_, ap, ap₂, subst, subst⁻¹}
-use mathlib.Core.Bool.{Bool, true, false}
 use mathlib.Core.List.{List, _++_}
 use lib.IntN.{ℤ, pos}
 use lib.ListN.{length, getD, take, drop}
@@ -10,11 +9,11 @@ use lib.Seq.{take-at}
 use lib.Signed.{leZ}
 use borrow.Author.Tests.{lt-ltb, le-ltb}
 use Rattle.numbers.proofs.Least.{least-least}
-use Rattle.answer.specs.Answer.{Answer, answered, refused, andThen, left}
+use Rattle.answer.specs.Answer.{Answer, answered, refused, left}
 use Rattle.integers.specs.Sizes.{EachWithin}
 use Rattle.faults.specs.Faults.{node, Sound, firstFault}
 use Rattle.faults.proofs.Faults.{faultless-is-sound}
-use Rattle.hxm.specs.Format.{Mesh, nodeCount, cellCount, meshAt, meshOf, faultOf}
+use Rattle.hxm.specs.Format.{meshAt, meshOf, faultOf}
 use Rattle.hxm.proofs.Ladder.{Counted, passed-accepted}
 use Rattle.volume_report.specs.Report.{Report, gridNumbers, volumesOf, total, firstNotAbove, meshReport, roomFor, reportOf, reportInto, volumesIn}
 use Rattle.volume_report.specs.Told.{Summary, summaryOf}

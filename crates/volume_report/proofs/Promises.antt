@@ -1,21 +1,20 @@
 -- What a report says is what its list says, in any order of the cells, and every number of it is small. Assumes nothing.
-use Prim.Native.Nat.{ℕ, zero, suc, _+_, _*_, _^_, _≤_, _<_}
-use native.Mathlib.Nat.{not-suc-le-zero}
+use Prim.Native.Nat.{ℕ, suc, _*_, _≤_}
 use native.Mathlib.Omega.{arith}
 use mathlib.Core.Path.{_≡_, refl, sym, _∙_, ap, ap₂, subst, subst⁻¹}
-use mathlib.Core.Bool.{Bool, true, false}
+use mathlib.Core.Bool.{false}
 use mathlib.Core.List.{List, [], _∷_, map, Perm, List·Permᴰ, List·Permᴰ·nil, List·Permᴰ·cons, List·Permᴰ·swap, List·Permᴰ·trans}
 use mathlib.Core.Logic.{∥∥₁-elim}
 use lib.Dec.{lit≤, lt→ltb}
-use lib.IntN.{ℤ, pos, negsuc, natAbs, _+ℤ_, ℤ-set}
+use lib.IntN.{ℤ, pos, negsuc, _+ℤ_, ℤ-set}
 use lib.ListN.{length, getD}
-use lib.Signed.{leZ, _≤ℤ_, _<ℤ_, leZ-yes, ltZ-yes}
+use lib.Signed.{leZ, _<ℤ_, leZ-yes, ltZ-yes}
 use borrow.Author.Tests.{leb-false, le-ltb}
 use Rattle.numbers.proofs.Cases.{never}
 use Rattle.numbers.proofs.Least.{least-least}
 use Rattle.numbers.proofs.Tests.{holds}
 use Rattle.answer.specs.Answer.{Answer, answered, refused, andThen}
-use Rattle.answer.proofs.Answers.{Answered, answered-same, then-answered}
+use Rattle.answer.proofs.Answers.{answered-same, then-answered}
 use Rattle.integers.specs.Sizes.{Within, EachWithin}
 use Rattle.integers.proofs.Ring.{plus-left-swap}
 use Rattle.integers.proofs.Sizes.{within-add}

@@ -8,7 +8,7 @@ use lib.Seq.{length-take-le}
 use Rattle.buffer.proofs.Writing.{puts-as}
 use Rattle.text.specs.Text.{minusSign}
 use Rattle.text.proofs.Digits.{same-text}
-use Rattle.text.proofs.Lines.{below-nineteen-digits, below-twenty-digits}
+use Rattle.text.proofs.Lines.{below-nineteen-digits}
 use Rattle.text.proofs.Signs.{text-above, text-below}
 use Rattle.text.proofs.put_signed.Statement.{statement}
 use Rattle.text.proofs.put_signed.Tie as tie

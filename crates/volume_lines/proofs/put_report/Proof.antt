@@ -1,5 +1,4 @@
 -- `volume_lines::put_report` meets its contract: the lines of the cells, and two more. Assumes nothing.
-use native.Mathlib.Omega.{arith}
 use mathlib.Core.Path.{ap}
 use borrow.Author.Needs.{needs}
 use mir.Facts.{toZ-ofZ}

@@ -1,5 +1,4 @@
 -- `volume_report::along` meets its contract: differences of grid numbers are small. Assumes nothing.
-use native.Mathlib.Omega.{arith}
 use borrow.Author.Needs.{needs}
 use Rattle.volume_report.proofs.Steps.{less, twist, on-grid, differences}
 use Rattle.volume_report.proofs.along.Statement.{statement}

@@ -1,7 +1,7 @@
 -- `volume_report::corners` meets its contract: the first k corners are read. Assumes nothing.
-use Prim.Native.Nat.{ℕ, _+_, _*_, _-_, _≤_, _<_}
+use Prim.Native.Nat.{ℕ, _+_, _*_, _-_, _≤_}
 use native.Mathlib.Omega.{arith}
-use mathlib.Core.Path.{_≡_, sym, subst⁻¹}
+use mathlib.Core.Path.{subst⁻¹}
 use borrow.Author.Needs.{needs}
 use lib.ListN.{length, getD}
 use Rattle.numbers.proofs.Stored.{Stores, stores-none, stores-more, stores-all}

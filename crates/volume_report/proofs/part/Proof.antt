@@ -1,5 +1,4 @@
 -- `volume_report::part` meets its contract: the determinant of three axes' differences. Assumes nothing.
-use native.Mathlib.Omega.{arith}
 use borrow.Author.Needs.{needs}
 use Rattle.volume_report.proofs.Steps.{row-of-back, parted}
 use Rattle.volume_report.proofs.part.Statement.{statement}

@@ -2,12 +2,9 @@
 use Prim.Native.Nat.{ℕ, _-_, _≤_}
 use native.Mathlib.Omega.{arith}
 use mathlib.Core.Path.{_≡_, refl, sym, _∙_, ap}
-use mathlib.Core.List.{List}
 use borrow.Author.Needs.{needs}
-use lib.IntN.{ℤ}
 use lib.ListN.{length, take, set, length-set}
 use lib.Seq.{take-length}
-use lib.Ieee.{ofBits, binary64}
 use Rattle.answer.specs.Answer.{answered, each}
 use Rattle.integers.proofs.Sizes.{within-back, back}
 use Rattle.grid_number.specs.Told.{told}

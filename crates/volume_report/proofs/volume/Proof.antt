@@ -1,6 +1,5 @@
 -- `volume_report::volume` meets its contract: the volume is 18 times the sum of three determinants. Assumes nothing.
 use mathlib.Core.Path.{sym, _∙_}
-use native.Mathlib.Omega.{arith}
 use borrow.Author.Needs.{needs}
 use Rattle.exact_volume.proofs.Determinants.{three-determinants}
 use Rattle.integers.proofs.Straight.{arg, op, add}
