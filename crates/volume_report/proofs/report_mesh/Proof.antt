@@ -34,8 +34,7 @@ returns-2 : tie.Need-returns-2
 returns-2 c =
     let sum = c .before .before in
     let written = sum .before .before .before .put-volumes .ensures in
-    let total = toZ-ofZ (record { sfits = sum .total .ok }) ∙ sum .total .ensures in
-    let said = mesh-reported written _ _ (omega arith) total (c .first-not-above .ensures) in
+    let said = mesh-reported written _ _ (omega arith) (toZ-ofZ (record { sfits = sum .total .ok }) ∙ sum .total .ensures) (c .first-not-above .ensures) in
     (said .told, said .output)
 
 pub report-mesh-spec : {M : Type 1} → statement M
