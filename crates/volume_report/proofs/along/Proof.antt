@@ -4,6 +4,11 @@ use Rattle.volume_report.proofs.Steps.{less, twist, on-grid, difference
 use Rattle.volume_report.proofs.along.Statement.{statement}
 use Rattle.volume_report.proofs.along.Tie as tie
 
+returns : tie.Need-returns
+returns c =
+    let start = c .before .before .before .before .before .before .before .before in
+    differences (start .args .t1) (start .pre .0) (start .args .p) (start .args .q) (start .args .u) (start .args .v)
+
 sub-first : tie.Need-sub-t15
 sub-first c = let start = c .before .before in on-grid (start .args .t1) (start .pre .0) (less (start .args .p) (start .args .q)) tt .fits
 
@@ -22,11 +27,6 @@ sub-near : tie.Need-sub-t41
 sub-near c =
     let start = c .before .before .before .before .before .before .before .before in
     on-grid (start .args .t1) (start .pre .0) (less (start .args .v) 0) tt .fits
-
-returns : tie.Need-returns
-returns c =
-    let start = c .before .before .before .before .before .before .before .before in
-    differences (start .args .t1) (start .pre .0) (start .args .p) (start .args .q) (start .args .u) (start .args .v)
 
 pub along-spec : {M : Type 1} → statement M
 along-spec =

@@ -8,6 +8,12 @@ use Rattle.volume_report.proofs.Steps.{sum, eighteen, of-parts, eightee
 use Rattle.volume_report.proofs.volume.Statement.{statement}
 use Rattle.volume_report.proofs.volume.Tie as tie
 
+returns : tie.Need-returns
+returns c =
+    let args = c .before .before .before .args in
+    eighteen-times (c .before .before .part .ensures) (c .before .part2 .ensures) (c .part3 .ensures)
+    ∙ sym (three-determinants (at (args .x)) (at (args .y)) (at (args .z)))
+
 add-two : tie.Need-add-result
 add-two c = of-parts (c .before .before .part .ensures) (c .before .part2 .ensures) (c .part3 .ensures) (op add (arg 0) (arg 1)) tt .fits
 
@@ -16,12 +22,6 @@ add-three c = of-parts (c .before .before .part .ensures) (c .before .part2 .ens
 
 mul-result : tie.Need-mul-result
 mul-result c = of-parts (c .before .before .part .ensures) (c .before .part2 .ensures) (c .part3 .ensures) eighteen tt .fits
-
-returns : tie.Need-returns
-returns c =
-    let args = c .before .before .before .args in
-    eighteen-times (c .before .before .part .ensures) (c .before .part2 .ensures) (c .part3 .ensures)
-    ∙ sym (three-determinants (at (args .x)) (at (args .y)) (at (args .z)))
 
 pub volume-spec : {M : Type 1} → statement M
 volume-spec = tie.close (tie.spec (λ c κs. search needs) (λ c κs. search needs) (λ c κs. search needs) add-two add-three mul-result returns)
