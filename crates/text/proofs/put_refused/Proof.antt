@@ -10,12 +10,6 @@ use Rattle.text.proofs.Lines.{below-ten-digits, below-twenty-digits}
 use Rattle.text.proofs.put_refused.Statement.{statement}
 use Rattle.text.proofs.put_refused.Tie as tie
 
-put-digits-requires : tie.Need-put-digits-requires
-put-digits-requires c κs =
-    let word = puts-wrote (omega arith) (c .before .before .put-bytes .ensures) in
-    let k = c .before .before .before .before .before .before .args .k in
-    (omega arith, below-ten-digits k (omega arith), omega (arith, word .ends, word .keeps))
-
 -- what the list beside the buffer holds
 line : (c : tie.After-put-byte)
     → Wrote (replicate 19 0) (c .put-byte .last .0) 0 (c .put-byte .result)
@@ -32,6 +26,12 @@ line c =
 
 returns : tie.Need-returns
 returns c = let put = c .before .before in puts-as (line (put .before .before .before .before) .reads) (put .put-bytes2 .ensures)
+
+put-digits-requires : tie.Need-put-digits-requires
+put-digits-requires c κs =
+    let word = puts-wrote (omega arith) (c .before .before .put-bytes .ensures) in
+    let k = c .before .before .before .before .before .before .args .k in
+    (omega arith, below-ten-digits k (omega arith), omega (arith, word .ends, word .keeps))
 
 pub put-refused-spec : {M : Type 1} → statement M
 put-refused-spec =
