@@ -15,7 +15,7 @@ use Rattle.exact_volume.specs.Volume.{volume216}
 use Rattle.exact_volume.proofs.Determinants.{corners-alone}
 use Rattle.exact_volume.proofs.Sizes.{volume-small}
 use Rattle.volume_report.specs.Report.{cellAt, cornerOf, cellVolume, volumesOf}
-use Rattle.volume_report.specs.Sized.{at}
+use Rattle.volume_report.specs.Sized.{mostVolume, at}
 
 module _ (numbers : List ℤ) (cells : List ℕ) (c i : ℕ) where
   pub corner-is : (k : ℕ) → k < 8 → cornerOf numbers (cellAt cells c) i k ≡ getD numbers (3 * getD cells (8 * c + k) 0 + i) (pos 0)
@@ -43,7 +43,7 @@ cell-volume-is numbers cells c x y z ex ey ez =
     (λ i. volume216 (at (ex i)) (at (ey i)) (at (ez i)))
     ∙ corners-alone (cornerOf numbers (cellAt cells c) 0) (cornerOf numbers (cellAt cells c) 1) (cornerOf numbers (cellAt cells c) 2)
 
-pub cell-small : (numbers : List ℤ) (cell : List ℕ) → EachWithin 1024 numbers → Within 5566277615616 (cellVolume numbers cell)
+pub cell-small : (numbers : List ℤ) (cell : List ℕ) → EachWithin 1024 numbers → Within mostVolume (cellVolume numbers cell)
 unfolding cellVolume
 cell-small numbers cell small =
     volume-small (cornerOf numbers cell 0) (cornerOf numbers cell 1) (cornerOf numbers cell 2) (λ k. small .at _) (λ k. small .at _) (λ k. small .at _)
@@ -56,10 +56,10 @@ module _ (numbers : List ℤ) (cells : List ℕ) (n : ℕ) where
   pub volumes-long : length (volumesOf numbers cells n) ≡ n
   volumes-long = ap length volumes-by-cell ∙ length-tabulate n (λ (c : ℕ). cellVolume numbers (cellAt cells c))
 
-  pub volumes-small : EachWithin 1024 numbers → EachWithin 5566277615616 (volumesOf numbers cells n)
+  pub volumes-small : EachWithin 1024 numbers → EachWithin mostVolume (volumesOf numbers cells n)
   volumes-small small =
-      subst⁻¹ (EachWithin 5566277615616) volumes-by-cell
+      subst⁻¹ (EachWithin mostVolume) volumes-by-cell
       (record {
-        at = tabulate-holds (Within 5566277615616) n (λ (c : ℕ). cellVolume numbers (cellAt cells c)) (pos 0)
+        at = tabulate-holds (Within mostVolume) n (λ (c : ℕ). cellVolume numbers (cellAt cells c)) (pos 0)
             (λ c. cell-small numbers (cellAt cells c) small) (record { within = lit≤ tt });
       })

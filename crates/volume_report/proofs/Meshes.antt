@@ -17,7 +17,7 @@ use Rattle.hxm.specs.Format.{meshAt, meshOf, faultOf}
 use Rattle.hxm.proofs.Ladder.{Counted, passed-accepted}
 use Rattle.volume_report.specs.Report.{Report, gridNumbers, volumesOf, total, firstNotAbove, meshReport, roomFor, reportOf, reportInto, volumesIn}
 use Rattle.volume_report.specs.Told.{Summary, summaryOf}
-use Rattle.volume_report.specs.Sized.{OnGrid, Written}
+use Rattle.volume_report.specs.Sized.{mostVolume, OnGrid, Written}
 use Rattle.volume_report.proofs.Cells.{volumes-long, volumes-small}
 use Rattle.volume_report.proofs.Words.{numbers-long, numbers-small}
 
@@ -41,8 +41,8 @@ module _ {numbers : List ℤ} {cells : List ℕ} {n : ℕ} {old new : List ℤ} 
   pub head-long : length (take n new) ≡ n
   head-long = ap length head-is ∙ volumes-long numbers cells n
 
-  pub head-small : EachWithin 1024 numbers → EachWithin 5566277615616 (take n new)
-  head-small small = subst⁻¹ (EachWithin 5566277615616) head-is (volumes-small numbers cells n small)
+  pub head-small : EachWithin 1024 numbers → EachWithin mostVolume (take n new)
+  head-small small = subst⁻¹ (EachWithin mostVolume) head-is (volumes-small numbers cells n small)
 
   pub first-within : (first : ℕ) → first ≡ firstNotAbove (take n new) → first ≤ n
   first-within first e = omega (arith, e, head-long, least-least (length (take n new)) (λ (k : ℕ). leZ (getD (take n new) k (pos 0)) (pos 0)) .within)

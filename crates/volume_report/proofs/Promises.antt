@@ -20,6 +20,7 @@ use Rattle.integers.proofs.Ring.{plus-left-swap}
 use Rattle.integers.proofs.Sizes.{within-add}
 use Rattle.hxm.specs.Format.{Mesh, meshAt, meshOf}
 use Rattle.hxm.proofs.Ladder.{Passed, accepted-passed}
+use Rattle.volume_report.specs.Sized.{mostVolume}
 use Rattle.volume_report.specs.Report.{Report, gridNumbers, cellVolume, cellsOf, total, reportOn, meshReport, roomFor, reportOf, reportInto}
 use Rattle.volume_report.specs.Report.{TotalIsTheSum, First, FirstIsTheFirst, TotalInAnyOrder, Fits, ReportFits}
 use Rattle.volume_report.specs.Told.{ToldLosesNothing}
@@ -103,13 +104,13 @@ total-in-any-order s t m n r q fs ft es et coords order =
     ∙ sym (ap (λ (x : Report). x .total) (b .is))
 
 -- ---- sizes
-total-small : (volumes : List ℤ) → EachWithin 5566277615616 volumes → Within (length volumes * 5566277615616) (total volumes)
+total-small : (volumes : List ℤ) → EachWithin mostVolume volumes → Within (length volumes * mostVolume) (total volumes)
 total-small [] small = record { within = lit≤ tt }
 total-small (v ∷ vs) small =
     let rest = total-small vs (record { at = λ i. small .at (suc i) }) in
     record { within = omega (arith, within-add (small .at 0) rest .within) }
 
-fits-of : (volumes : List ℤ) → length volumes ≤ 128 → EachWithin 5566277615616 volumes → Fits (reportOn volumes)
+fits-of : (volumes : List ℤ) → length volumes ≤ 128 → EachWithin mostVolume volumes → Fits (reportOn volumes)
 fits-of volumes few small =
     record {
       cells = few;

@@ -15,7 +15,7 @@ use Rattle.integers.proofs.Sizes.{within-back, back}
 use Rattle.integers.proofs.Straight.{Code, arg, num, op, add, sub, mul, codes, got, easy, Exact, exact}
 use Rattle.mat3_col_major.specs.Mat3.{detIn}
 use Rattle.exact_volume.specs.Determinants.{along, part}
-use Rattle.volume_report.specs.Sized.{at, Row, Differences, Part}
+use Rattle.volume_report.specs.Sized.{mostPart, at, Row, Differences, Part}
 
 -- ---- the differences of one axis
 abbrev pub less : ℕ → ℕ → Code
@@ -95,7 +95,7 @@ module _ (a b c d e f g h k : ℤ) (x : Row a b c) (y : Row d e f) (z : Row g h 
   pub determined : Part (detIn integers entries) (got (at entries) minors)
   determined =
       let whole = of-rows minors tt in
-      record { is = whole .gives ∙ minors-determinant a b c d e f g h k; small = subst⁻¹ (Within 103079215104) (whole .gives) (whole .sized) }
+      record { is = whole .gives ∙ minors-determinant a b c d e f g h k; small = subst⁻¹ (Within mostPart) (whole .gives) (whole .sized) }
 
 -- ---- a part: the rows are read back as they were
 row-back : {a b c : ℤ} → Row a b c → (back a ≡ a) × (back b ≡ b) × (back c ≡ c)
@@ -121,7 +121,7 @@ parted i j l whole =
     let same = within-back tt (whole .small) in
     record {
       is = same ∙ whole .is ∙ (λ t. detIn integers (axis-back i t ++ (axis-back j t ++ axis-back l t)));
-      small = subst⁻¹ (Within 103079215104) same (whole .small);
+      small = subst⁻¹ (Within mostPart) same (whole .small);
     }
 
 -- ---- 18 times the sum of three parts
@@ -135,10 +135,10 @@ module _ {a b c r s t : ℤ} (x : Part a r) (y : Part b s) (z : Part c t) where
   abbrev parts : ℕ → ℤ
   parts i = at (r ∷ s ∷ t ∷ []) i
 
-  pub of-parts : (e : Code) → T (easy (λ i. 103079215104) e) → Exact (λ i. 103079215104) parts e
-  of-parts e ok = exact (λ i. 103079215104) parts by e ok
+  pub of-parts : (e : Code) → T (easy (λ i. mostPart) e) → Exact (λ i. mostPart) parts e
+  of-parts e ok = exact (λ i. mostPart) parts by e ok
     where
-      by : (i : ℕ) → Within 103079215104 (parts i)
+      by : (i : ℕ) → Within mostPart (parts i)
       by zero = x .small
       by (suc zero) = y .small
       by (suc (suc zero)) = z .small

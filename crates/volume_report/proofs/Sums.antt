@@ -12,17 +12,14 @@ use mir.Val.{SFits}
 use mir.Facts.{toZ-ofZ}
 use Rattle.integers.specs.Sizes.{Within, EachWithin}
 use Rattle.integers.proofs.Sizes.{within-add, within-fits, within-back, within-more, back}
+use Rattle.volume_report.specs.Sized.{mostVolume}
 use Rattle.volume_report.specs.Report.{total}
-
--- the most that a cell's volume can be: 18 times three determinants, each of six products of 4,096, 2,048 and 2,048
-abbrev pub most : ℕ
-most = 5566277615616
 
 -- what the loop holds: s is the sum of the first c volumes
 pub record Summed (volumes : List ℤ) (c : ℕ) (s : ℤ) : Type 0 where
   pub within : c ≤ length volumes
   pub rest : s +ℤ total (drop c volumes) ≡ total volumes
-  pub small : Within (c * most) s
+  pub small : Within (c * mostVolume) s
 
 pub summed-none : (volumes : List ℤ) → Summed volumes 0 (pos 0)
 summed-none volumes = record { within = omega arith; rest = +ℤ-idl (total volumes); small = record { within = omega arith } }
@@ -33,7 +30,7 @@ summed-all {volumes} {c} {s} h all =
     let nothing : drop c volumes ≡ [] = ap (λ (n : ℕ). drop n volumes) last ∙ drop-length volumes in
     sym (+ℤ-idr s) ∙ ap (λ (l : List ℤ). s +ℤ total l) (sym nothing) ∙ h .rest
 
-module _ (volumes : List ℤ) (sized : EachWithin most volumes) (few : length volumes ≤ 128) (c : ℕ) (s : ℤ) (h : Summed volumes c s)
+module _ (volumes : List ℤ) (sized : EachWithin mostVolume volumes) (few : length volumes ≤ 128) (c : ℕ) (s : ℤ) (h : Summed volumes c s)
     (more : c < length volumes) where
   abbrev volume : ℤ
   volume = getD volumes c (pos 0)
@@ -41,11 +38,11 @@ module _ (volumes : List ℤ) (sized : EachWithin most volumes) (few : length vo
   same : back volume ≡ volume
   same = within-back tt (sized .at c)
 
-  sum-small : Within (c * most + most) (s +ℤ volume)
+  sum-small : Within (c * mostVolume + mostVolume) (s +ℤ volume)
   sum-small = within-add (h .small) (sized .at c)
 
   pub sum-fits : SFits w64 (s +ℤ back (getD volumes c (pos 0)))
-  sum-fits = subst⁻¹ (λ (v : ℤ). SFits w64 (s +ℤ v)) same (within-fits {n = 128 * most} tt (within-more (omega arith) sum-small))
+  sum-fits = subst⁻¹ (λ (v : ℤ). SFits w64 (s +ℤ v)) same (within-fits {n = 128 * mostVolume} tt (within-more (omega arith) sum-small))
 
   sum-is : back (s +ℤ back (getD volumes c (pos 0))) ≡ s +ℤ volume
   sum-is = toZ-ofZ sum-fits ∙ ap (λ (v : ℤ). s +ℤ v) same
@@ -60,5 +57,5 @@ module _ (volumes : List ℤ) (sized : EachWithin most volumes) (few : length vo
             ∙ ap (λ (n : ℕ). s +ℤ (volume +ℤ total (drop n volumes))) (add-one c)
             ∙ ap (λ (l : List ℤ). s +ℤ total l) (sym (drop-cons volumes c (pos 0) more))
             ∙ h .rest;
-        small = subst⁻¹ (Within ((c + 1) * most)) sum-is (within-more (omega arith) sum-small);
+        small = subst⁻¹ (Within ((c + 1) * mostVolume)) sum-is (within-more (omega arith) sum-small);
       }

@@ -24,10 +24,16 @@ pub record Differences (x : List ℤ) (p q u v : ℕ) (a b c : ℤ) : Type 0 whe
   pub are : a ∷ b ∷ c ∷ [] ≡ along integers pos (at x) p q u v
   pub small : Row a b c
 
--- a determinant of three such rows: six products of 4,096, 2,048 and 2,048
+-- a determinant of three such rows has six products of 4,096, 2,048 and 2,048, and a cell's volume is 18 times three of them
+abbrev pub mostPart : ℕ
+mostPart = 6 * (4096 * (2048 * 2048))
+
+abbrev pub mostVolume : ℕ
+mostVolume = 18 * (3 * mostPart)
+
 pub record Part (z r : ℤ) : Type 0 where
   pub is : r ≡ z
-  pub small : Within 103079215104 r
+  pub small : Within mostPart r
 
 -- numbers on the grid, three for each node that the cells name
 pub record OnGrid (numbers : List ℤ) (cells : List ℕ) : Type 0 where

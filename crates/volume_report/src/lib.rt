@@ -20,7 +20,7 @@ ghost use Rattle.exact_volume.specs.Volume.{volume216};
 ghost use Rattle.exact_volume.specs.Determinants.{part};
 ghost use Rattle.volume_report.specs.Report.{gridNumbers, cellAt, cornerOf, cellVolume, total, firstNotAbove, meshReport, roomFor, reportInto, volumesIn};
 ghost use Rattle.volume_report.specs.Told.{told, summaryOf};
-ghost use Rattle.volume_report.specs.Sized.{at, Differences, Row, Part, OnGrid, Written};
+ghost use Rattle.volume_report.specs.Sized.{mostVolume, at, Differences, Row, Part, OnGrid, Written};
 
 // The total, the number of cells and the first cell that is not above zero, or a refusal's number.
 pub enum Reported {
@@ -146,7 +146,7 @@ fn put_volumes(numbers: &[i64], cells: &[u32], count: usize, out: &mut [i64])
 }
 
 fn total(volumes: &[i64]) -> i64
-    requires { ⌜ EachWithin 5566277615616 (now volumes) × (length (now volumes) ≤ 128) ⌝ }
+    requires { ⌜ EachWithin mostVolume (now volumes) × (length (now volumes) ≤ 128) ⌝ }
     ensures { λ r. ⌜ r ≡ total (now (volumes .entry)) ⌝ }
 {
     let mut sum: i64 = 0;
@@ -161,7 +161,7 @@ fn total(volumes: &[i64]) -> i64
 
 // The first volume that is not above zero, or how many there are.
 fn first_not_above(volumes: &[i64]) -> usize
-    requires { ⌜ EachWithin 5566277615616 (now volumes) ⌝ }
+    requires { ⌜ EachWithin mostVolume (now volumes) ⌝ }
     ensures { λ r. ⌜ r ≡ firstNotAbove (now (volumes .entry)) ⌝ }
 {
     let mut first: usize = 0;
