@@ -7,45 +7,12 @@ ghost use Rattle.numbers.specs.Rule.{tabulate, grid};
 ghost use Rattle.binary64.specs.Binary64.{_!_};
 ghost use Rattle.hex_iso_mask.specs.Cut.{signIndex, maskOf};
 ghost use Rattle.hex_iso.specs.Edges.{heldOn, heldBetween, edgeOn, isoEdges};
-ghost use Rattle.hex_iso.specs.Square.{cutAround};
 
 // What `iso_surface` makes its triangles of: `cubeindex`, the mask `e0`, and three floats for each of the twelve edges.
 pub struct IsoEdges {
     pub index: u32,
     pub mask: u32,
     pub positions: [f64; 36],
-}
-
-// Which of a square's edges are cut, by the bits of its corners: edge k goes from corner k to the next one.
-fn around(square: u32) -> u32
-    requires { ⌜ square < 16 ⌝ }
-    ensures { λ r. ⌜ r ≡ cutAround square ⌝ }
-{
-    square ^ ((square >> 1) | ((square & 1) << 3))
-}
-
-// An entry of `ISO_EDGE` by the order of the edges: four around the bottom, four around the top, and four between them.
-fn cut_edges(cubeindex: u32) -> u32
-    requires { ⌜ cubeindex < 256 ⌝ }
-    ensures { λ r. ⌜ r ≡ maskOf cubeindex ⌝ }
-{
-    let bottom = cubeindex % 16;
-    let top = cubeindex / 16;
-    around(bottom) | (around(top) << 4) | ((bottom ^ top) << 8)
-}
-
-// Bit k is set where the value of corner k is below zero.
-fn cube_index(corner_value: [f64; 8]) -> u32
-    ensures value { λ r. ⌜ r ≡ signIndex «corner_value» ⌝ }
-    ensures byte { λ r. ⌜ r < 256 ⌝ }
-{
-    let mut cubeindex = 0u32;
-    for i_node_hex in 0..8usize {
-        if corner_value[i_node_hex] < 0.0 {
-            cubeindex |= 1 << i_node_hex;
-        }
-    }
-    cubeindex
 }
 
 // What an edge holds: three plus infinities where the mask leaves it uncut.
@@ -149,22 +116,21 @@ pub fn iso_edges_into(
     ensures byte { λ r. ⌜ r < 256 ⌝ }
     ensures positions { λ _. ⌜ now (vertlist .exit) ≡ isoEdges center «half_width» «corner_value» .positions ⌝ }
 {
-    let cubeindex = cube_index(corner_value);
-    let e0 = cut_edges(cubeindex);
-    vert_list(center, half_width, corner_value, e0, vertlist);
-    cubeindex
+    let cut = hex_iso_mask::iso_cut(corner_value);
+    vert_list(center, half_width, corner_value, cut.mask, vertlist);
+    cut.index
 }
 
 // The same by value.
 pub fn iso_edges(center: [f64; 3], half_width: f64, corner_value: [f64; 8]) -> IsoEdges
     ensures { λ r. ⌜ r ≡ isoEdges center «half_width» «corner_value» ⌝ }
 {
+    let cut = hex_iso_mask::iso_cut(corner_value);
     let mut vertlist = [0.0; 36];
-    let cubeindex = iso_edges_into(center, half_width, corner_value, &mut vertlist);
-    let e0 = cut_edges(cubeindex);
+    vert_list(center, half_width, corner_value, cut.mask, &mut vertlist);
     IsoEdges {
-        index: cubeindex,
-        mask: e0,
+        index: cut.index,
+        mask: cut.mask,
         positions: vertlist,
     }
 }

@@ -1,38 +1,19 @@
--- The entries of the table are the masks of their indexes, by one test that antt computes over all of them; and the bits of a mask are the cut edges,
--- since it is made of them. Assumes nothing.
+-- The bits of a mask are the cut edges, since it is made of them; a sign index is below 256. Assumes nothing.
 use Prim.Native.Nat.{ℕ, _<_}
-use mathlib.Core.Path.{_≡_, refl, ap, _∙_}
-use mathlib.Core.Bool.{Bool}
-use lib.Dec.{T, eqb, eqb→eq}
-use lib.ListN.{getD}
-use Rattle.numbers.specs.Bits.{bit}
+use mathlib.Core.List.{List}
+use lib.Ieee.{Float, lt}
 use Rattle.numbers.proofs.Bits.{with-bits-below, bit-of-with-bits}
-use Rattle.numbers.proofs.Table.{every, at}
-use Rattle.hex_iso_mask.specs.Cut.{cut, maskOf, isoEdge, CutEdges}
-
--- the number at this place has the bits of the edges that are cut
-abbrev right : ℕ → ℕ → Bool
-right index mask = eqb mask (maskOf index)
-
-whole : T (every right 0 isoEdge)
-unfolding maskOf isoEdge
-whole = tt
-
-masks : (index : ℕ) → index < 256 → getD isoEdge index 0 ≡ maskOf index
-unfolding isoEdge
-masks index below = eqb→eq (getD isoEdge index 0) (maskOf index) (at right isoEdge whole index below)
-
-bits : (index k : ℕ) → k < 12 → bit (maskOf index) k ≡ cut index k
-unfolding maskOf
-bits index = bit-of-with-bits 12 (cut index)
+use Rattle.binary64.specs.Binary64.{_!_, f0}
+use Rattle.hex_iso_mask.specs.Cut.{cut, signIndex, maskOf, CutEdges}
 
 pub cut-edges : CutEdges
-unfolding maskOf isoEdge
+unfolding maskOf
 cut-edges =
     record {
-      entries = refl;
-      table = λ index k below inside. ap (λ (m : ℕ). bit m k) (masks index below) ∙ bits index k inside;
-      masks = masks;
-      bits = bits;
+      bits = λ index. bit-of-with-bits 12 (cut index);
       twelve = λ index. with-bits-below 12 (cut index);
     }
+
+pub index-below : (value : List Float) → signIndex value < 256
+unfolding signIndex
+index-below value = with-bits-below 8 (λ (k : ℕ). lt (value ! k) f0)

@@ -1,268 +1,8 @@
-// hex.rs: `ISO_EDGE`, which edges of a cube the surface of value zero cuts.
+// hex.rs: `ISO_EDGE` and the start of `iso_surface`, which edges of a cube the surface of value zero cuts.
 ghost use mathlib.Core.Path.{_≡_};
 ghost use Prim.Native.Nat.{_<_};
-ghost use lib.ListN.{getD};
-ghost use Rattle.hex_iso_mask.specs.Cut.{isoEdge, isoMask, maskTold};
-
-// For each sign index the mask of the edges that are cut.
-pub const ISO_EDGE: [u32; 256] = [
-    0x0, // 0
-    0x109,
-    0x203,
-    0x30a,
-    0x406,
-    0x50f,
-    0x605,
-    0x70c,
-    0x80c,
-    0x905,
-    0xa0f,
-    0xb06,
-    0xc0a,
-    0xd03,
-    0xe09,
-    0xf00,
-    0x190, // 16
-    0x99,
-    0x393,
-    0x29a,
-    0x596,
-    0x49f,
-    0x795,
-    0x69c,
-    0x99c,
-    0x895,
-    0xb9f,
-    0xa96,
-    0xd9a,
-    0xc93,
-    0xf99,
-    0xe90,
-    0x230, // 32
-    0x339,
-    0x33,
-    0x13a,
-    0x636,
-    0x73f,
-    0x435,
-    0x53c,
-    0xa3c,
-    0xb35,
-    0x83f,
-    0x936,
-    0xe3a,
-    0xf33,
-    0xc39,
-    0xd30,
-    0x3a0, // 48
-    0x2a9,
-    0x1a3,
-    0xaa,
-    0x7a6,
-    0x6af,
-    0x5a5,
-    0x4ac,
-    0xbac,
-    0xaa5,
-    0x9af,
-    0x8a6,
-    0xfaa,
-    0xea3,
-    0xda9,
-    0xca0,
-    0x460, // 64
-    0x569,
-    0x663,
-    0x76a,
-    0x66,
-    0x16f,
-    0x265,
-    0x36c,
-    0xc6c,
-    0xd65,
-    0xe6f,
-    0xf66,
-    0x86a,
-    0x963,
-    0xa69,
-    0xb60,
-    0x5f0, // 80
-    0x4f9,
-    0x7f3,
-    0x6fa,
-    0x1f6,
-    0xff,
-    0x3f5,
-    0x2fc,
-    0xdfc,
-    0xcf5,
-    0xfff,
-    0xef6,
-    0x9fa,
-    0x8f3,
-    0xbf9,
-    0xaf0,
-    0x650, // 96
-    0x759,
-    0x453,
-    0x55a,
-    0x256,
-    0x35f,
-    0x55,
-    0x15c,
-    0xe5c,
-    0xf55,
-    0xc5f,
-    0xd56,
-    0xa5a,
-    0xb53,
-    0x859,
-    0x950,
-    0x7c0, // 112
-    0x6c9,
-    0x5c3,
-    0x4ca,
-    0x3c6,
-    0x2cf,
-    0x1c5,
-    0xcc,
-    0xfcc,
-    0xec5,
-    0xdcf,
-    0xcc6,
-    0xbca,
-    0xac3,
-    0x9c9,
-    0x8c0,
-    0x8c0, // 128
-    0x9c9,
-    0xac3,
-    0xbca,
-    0xcc6,
-    0xdcf,
-    0xec5,
-    0xfcc,
-    0xcc,
-    0x1c5,
-    0x2cf,
-    0x3c6,
-    0x4ca,
-    0x5c3,
-    0x6c9,
-    0x7c0,
-    0x950, // 144
-    0x859,
-    0xb53,
-    0xa5a,
-    0xd56,
-    0xc5f,
-    0xf55,
-    0xe5c,
-    0x15c,
-    0x55,
-    0x35f,
-    0x256,
-    0x55a,
-    0x453,
-    0x759,
-    0x650,
-    0xaf0, // 160
-    0xbf9,
-    0x8f3,
-    0x9fa,
-    0xef6,
-    0xfff,
-    0xcf5,
-    0xdfc,
-    0x2fc,
-    0x3f5,
-    0xff,
-    0x1f6,
-    0x6fa,
-    0x7f3,
-    0x4f9,
-    0x5f0,
-    0xb60, // 176
-    0xa69,
-    0x963,
-    0x86a,
-    0xf66,
-    0xe6f,
-    0xd65,
-    0xc6c,
-    0x36c,
-    0x265,
-    0x16f,
-    0x66,
-    0x76a,
-    0x663,
-    0x569,
-    0x460,
-    0xca0, // 192
-    0xda9,
-    0xea3,
-    0xfaa,
-    0x8a6,
-    0x9af,
-    0xaa5,
-    0xbac,
-    0x4ac,
-    0x5a5,
-    0x6af,
-    0x7a6,
-    0xaa,
-    0x1a3,
-    0x2a9,
-    0x3a0,
-    0xd30, // 208
-    0xc39,
-    0xf33,
-    0xe3a,
-    0x936,
-    0x83f,
-    0xb35,
-    0xa3c,
-    0x53c,
-    0x435,
-    0x73f,
-    0x636,
-    0x13a,
-    0x33,
-    0x339,
-    0x230,
-    0xe90, // 224
-    0xf99,
-    0xc93,
-    0xd9a,
-    0xa96,
-    0xb9f,
-    0x895,
-    0x99c,
-    0x69c,
-    0x795,
-    0x49f,
-    0x596,
-    0x29a,
-    0x393,
-    0x99,
-    0x190,
-    0xf00, // 240
-    0xe09,
-    0xd03,
-    0xc0a,
-    0xb06,
-    0xa0f,
-    0x905,
-    0x80c,
-    0x70c,
-    0x605,
-    0x50f,
-    0x406,
-    0x30a,
-    0x203,
-    0x109,
-    0x0,
-];
+ghost use Rattle.numbers.specs.Bits.{withBits};
+ghost use Rattle.hex_iso_mask.specs.Cut.{signIndex, cut, maskOf, isoMask, isoCut, maskTold};
 
 // An entry of `ISO_EDGE`, or why there is none.
 pub enum IsoMask {
@@ -270,12 +10,32 @@ pub enum IsoMask {
     Refused(u32),
 }
 
-// An entry of the table.
-fn iso_edge(cubeindex: u32) -> u32
+// Of a cube `cubeindex` and its entry `e0`.
+pub struct IsoCut {
+    pub index: u32,
+    pub mask: u32,
+}
+
+// The edges around the bottom, 0 to 3, and those around the top, 4 to 7, in both squares at once: each goes from a corner to the next of its square.
+fn around(cubeindex: u32) -> u32
     requires { ⌜ cubeindex < 256 ⌝ }
-    ensures { λ r. ⌜ r ≡ getD isoEdge cubeindex 0 ⌝ }
+    ensures { λ r. ⌜ r ≡ withBits 8 (cut cubeindex) ⌝ }
 {
-    ISO_EDGE[cubeindex as usize]
+    // edges 0, 1 and 2 compare corners 0 and 1, 1 and 2, 2 and 3; edges 4, 5 and 6 compare corners 4 and 5, 5 and 6, 6 and 7
+    let next = (cubeindex >> 1) & 0x77;
+    // edge 3 compares corners 3 and 0; edge 7 compares corners 7 and 4
+    let first = (cubeindex & 0x11) << 3;
+    cubeindex ^ (next | first)
+}
+
+// An entry of `ISO_EDGE`, worked out from the two ends of each edge.
+fn cut_edges(cubeindex: u32) -> u32
+    requires { ⌜ cubeindex < 256 ⌝ }
+    ensures { λ r. ⌜ r ≡ maskOf cubeindex ⌝ }
+{
+    // edges 8 to 11 compare corners 0 and 4, 1 and 5, 2 and 6, 3 and 7
+    let upright = (cubeindex ^ (cubeindex >> 4)) & 0xf;
+    around(cubeindex) | (upright << 8)
 }
 
 pub fn iso_mask(index: u32) -> IsoMask
@@ -284,5 +44,31 @@ pub fn iso_mask(index: u32) -> IsoMask
     if 255 < index {
         return IsoMask::Refused(9);
     }
-    IsoMask::Mask(iso_edge(index))
+    IsoMask::Mask(cut_edges(index))
+}
+
+// Bit k is set where the value of corner k is below zero.
+fn cube_index(corner_value: [f64; 8]) -> u32
+    ensures value { λ r. ⌜ r ≡ signIndex «corner_value» ⌝ }
+    ensures byte { λ r. ⌜ r < 256 ⌝ }
+{
+    let mut cubeindex = 0u32;
+    for i_node_hex in 0..8usize {
+        if corner_value[i_node_hex] < 0.0 {
+            cubeindex |= 1 << i_node_hex;
+        }
+    }
+    cubeindex
+}
+
+// The first two steps of `iso_surface`: the sign index of the corner values, and its mask.
+pub fn iso_cut(corner_value: [f64; 8]) -> IsoCut
+    ensures { λ r. ⌜ r ≡ isoCut «corner_value» ⌝ }
+{
+    let cubeindex = cube_index(corner_value);
+    let e0 = cut_edges(cubeindex);
+    IsoCut {
+        index: cubeindex,
+        mask: e0,
+    }
 }

@@ -14,7 +14,7 @@ use Rattle.answer.specs.Answer.{Answer, answered, refused, left}
 use Rattle.hex.specs.Cube.{upper}
 use Rattle.hex_shape.specs.Shape as Hex
 use Rattle.prism_shape.specs.Shape as Prism
-use Rattle.hex_iso_mask.specs.Cut.{isoMask}
+use Rattle.hex_iso_mask.specs.Cut.{maskOf, isoMask}
 use Rattle.hex_iso_position.specs.Position.{isoPosition}
 use Rattle.probe.specs.Check.{checked}
 use Rattle.descendant.specs.Place.{descended}
@@ -24,9 +24,10 @@ use Rattle.hxm_write.specs.Writes.{meshOfLists, fileInto, lengthOf}
 use Rattle.numbering.specs.Refinement.{sameNodes, sameRing, nextBy}
 use Rattle.refine.specs.Refine.{refined}
 use Rattle.volume_lines.specs.Lines.{printed}
+use Rattle.worked_examples.specs.IsoEdge.{isoEdge}
 
 -- what an entry answers: floats, a whole number, a place in whole numbers, an acceptance, or the bytes of a file; or what a lent buffer holds then; or what a
--- definition decides, or its whole number
+-- definition decides, or its whole number, or its numbers at all places
 pub data Said : Type 0 where
   floats : Answer (List Float) → Said
   number : Answer ℕ → Said
@@ -36,6 +37,7 @@ pub data Said : Type 0 where
   buffer : List ℕ → Said
   decided : Bool → Said
   whole : ℤ → Said
+  table : List ℕ → Said
 
 -- which example it is: the P number of document 01, or the number of document 02's request
 pub data Source : Type 0 where
@@ -198,6 +200,8 @@ examples =
     ∷ requested 3 (whole (volume216 (side 0 1) (side 1 2) (side 2 3))) (whole (pos 1296))
     ∷ requested 3 (whole (volume216 (drawn 0) (drawn 1) (drawn 2))) (whole (pos 54))
     ∷ requested 3 (whole block) (whole (pos 16920))
+    -- 4/12: the masks worked out, and the table that they were in
+    ∷ requested 4 (table (tabulate 256 maskOf)) (table isoEdge)
     ∷ []
 
 -- "The P examples are one list with a single proved claim on the definitions"

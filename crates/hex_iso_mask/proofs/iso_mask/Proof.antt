@@ -1,8 +1,7 @@
--- `hex_iso_mask::iso_mask` meets its contract: the definition's ladder, and behind it the entry, which is the mask. Assumes nothing.
+-- `hex_iso_mask::iso_mask` meets its contract: the definition's ladder, and behind it the mask. Assumes nothing.
 use native.Mathlib.Omega.{arith}
 use borrow.Author.Needs.{needs}
 use borrow.Author.Tests.{lt-ltb, le-ltb}
-use Rattle.hex_iso_mask.proofs.Cut.{cut-edges}
 use Rattle.hex_iso_mask.proofs.iso_mask.Statement.{statement}
 use Rattle.hex_iso_mask.proofs.iso_mask.Tie as tie
 
@@ -10,9 +9,7 @@ returns : tie.Need-returns
 returns c = simp (lt-ltb 255 (c .before .args .index) (omega arith))
 
 returns-2 : tie.Need-returns-2
-returns-2 c =
-    let index = c .before .before .args .index in
-    simp (c .iso-edge .ensures, cut-edges .masks index (omega arith), le-ltb 255 index (omega arith))
+returns-2 c = simp (c .cut-edges .ensures, le-ltb 255 (c .before .before .args .index) (omega arith))
 
 pub iso-mask-spec : {M : Type 1} → statement M
 iso-mask-spec = tie.close (tie.spec returns (λ c κs. search needs) returns-2)

@@ -1,4 +1,4 @@
--- `hex_iso::cube_index` meets its contract. The invariant: the bits of the corners passed are set as the definition has it. Assumes nothing.
+-- `hex_iso_mask::cube_index` meets its contract. The invariant: the bits of the corners passed are set as the definition has it. Assumes nothing.
 use Prim.Native.Nat.{ℕ, _≤_, _-_, _*_, _%_, _^_}
 use mathlib.Core.Path.{_≡_, ap, _∙_}
 use mathlib.Core.Bool.{Bool}
@@ -11,9 +11,9 @@ use native.Mathlib.Omega.{arith}
 use Rattle.numbers.specs.Bits.{withBits}
 use Rattle.numbers.proofs.Bits.{with-bits-below, with-bit-set, with-bit-clear}
 use Rattle.binary64.specs.Binary64.{_!_, f0}
 use Rattle.hex_iso_mask.specs.Cut.{signIndex}
-use Rattle.hex_iso.proofs.cube_index.Statement.{statement}
-use Rattle.hex_iso.proofs.cube_index.Tie as tie
+use Rattle.hex_iso_mask.proofs.cube_index.Statement.{statement}
+use Rattle.hex_iso_mask.proofs.cube_index.Tie as tie
 
 abbrev below : List Float → ℕ → Bool
 below value k = lt (value ! k) f0
