@@ -9,8 +9,9 @@
 # make edits       whether docs/CONTRACTS.md and docs/COVERAGE.md name the must-fail edits that there are
 # make installed   whether programs build and run with what make install writes
 # make test        the gate: proves everything from nothing, and then makes demo to installed
-# make bench       BENCH=--instructions: times beside the original's, or instructions
+# make bench       BENCH=--instructions BEFORE=ARCHIVE: times beside the original's, or instructions; beside an earlier archive's
 # make stack       the stack that each entry takes
+# make size        the bytes that the archive loads, by section and by entry, and what a logger loads of it
 # make sanitize    the C programs under sanitizers, and the Rust crate's tests under valgrind
 # make clean       removes what was built
 CASES ?= 20000
@@ -95,7 +96,7 @@ second: $(DRIVE)
 
 PROGRAMS = hexkids hexvol
 
-.PHONY: examples rust bench stack sanitize native
+.PHONY: examples rust bench size stack sanitize native
 
 native:
 	@[ -z "$(VIA)" ] || { echo "make $(MAKECMDGOALS): on x86-64 only: in an emulator times mean nothing, and valgrind and the sanitizers do not run" >&2; exit 2; }
@@ -115,9 +116,14 @@ rust: $(ARCHIVE)
 	@if $(VIA) cargo --version >/dev/null; then set -x; $(VIA) cargo test --offline --quiet --manifest-path bindings/rust/Cargo.toml; \
 	else set -x; cargo check --tests --offline --quiet --manifest-path bindings/rust/Cargo.toml; fi
 
-# BENCH=--instructions counts instructions by valgrind; BENCH="--only check --rounds 2001" times some rows longer.
+# BENCH=--instructions counts instructions by valgrind; BENCH="--only check --rounds 2001" times some rows longer. BEFORE=ARCHIVE has rows against
+# an earlier archive too.
 bench: native $(ARCHIVE)
-	cargo run --release --offline --quiet --manifest-path bench/Cargo.toml -- $(BENCH)
+	ISNEMGUL_BEFORE='$(abspath $(BEFORE))' cargo run --release --offline --quiet --manifest-path bench/Cargo.toml -- $(BENCH)
+
+# It fails where the old table of masks stands in the archive.
+size: $(ARCHIVE)
+	bench/size --logger $(ARCHIVE)
 
 # The stack that each entry and both programs take.
 stack: $(ARCHIVE)

@@ -34,6 +34,7 @@ unsafe extern "C" {
         index: &mut u32,
         positions: &mut [Place; 12],
     ) -> u32;
+    pub safe fn isn_hex_iso_mask(index: u32, mask: &mut u32) -> u32;
     pub safe fn isn_hex_subdivide(
         corner: &[u32; 8],
         edge: &[u32; 12],
@@ -112,6 +113,19 @@ unsafe extern "C" {
         room: usize,
         next: &mut u32,
     ) -> u32;
+}
+
+// Not ours any more: entries of an earlier archive.
+#[cfg(before)]
+unsafe extern "C" {
+    pub safe fn before_isn_hex_iso_edges(
+        center: &Place,
+        half_width: f64,
+        values: &[f64; 8],
+        index: &mut u32,
+        positions: &mut [Place; 12],
+    ) -> u32;
+    pub safe fn before_isn_hex_iso_mask(index: u32, mask: &mut u32) -> u32;
 }
 
 pub type Gradient = ([Place; 8], f64);

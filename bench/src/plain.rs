@@ -2,6 +2,7 @@
 
 use cases::original::{HEX, Hex, Place};
 use reference::hex::{EDGE2NODE, IDX2NODE, subdivide};
+use reference::hex_opened::iso_edge;
 
 #[derive(Clone, Copy)]
 #[repr(C)]
@@ -24,6 +25,16 @@ pub fn check(corners: &Hex, at: &Place, tolerance: f64) -> u32 {
     }
     let image = HEX.image(corners, at);
     if image.iter().all(|&x| x <= tolerance && -x <= tolerance) { 0 } else { 6 }
+}
+
+/// An entry of the original's own table.
+#[inline(never)]
+pub fn iso_mask(index: u32, mask: &mut u32) -> u32 {
+    let Some(&entry) = iso_edge().get(index as usize) else {
+        return 9;
+    };
+    *mask = entry as u32;
+    0
 }
 
 #[inline(never)]

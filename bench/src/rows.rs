@@ -194,7 +194,7 @@ fn iso_position((center, i0, i1, [val0, val1]): &Cut, half_width: f64) -> Place 
 }
 
 #[inline(never)]
-fn iso_edges(center: &Place, half_width: f64, values: &[f64; 8]) -> (u32, [Place; 12]) {
+fn iso_edges(center: &Place, half_width: f64, values: &[f64; 8]) -> Edges {
     let (index, positions) = hex_opened::iso_surface_first_half(*center, half_width, values);
     (index as u32, positions)
 }
@@ -221,10 +221,14 @@ fn locate_checked(corners: &Hex) -> Option<Place> {
 
 /// An edge that a surface cuts: the cube's centre, the ends and their values.
 type Cut = (Place, u32, u32, [f64; 2]);
+/// A cube's centre and the values at its corners; the sign index and where its edges are cut.
+type Cube = (Place, [f64; 8]);
+type Edges = (u32, [Place; 12]);
 type HexNodes = ([u32; 8], [u32; 12], [u32; 6], u32);
 type PrismNodes = ([u32; 6], [u32; 9], [u32; 3]);
 
 const HALF_WIDTH: f64 = 0.75;
+const UNCUT: Edges = (0, [[0.0; 3]; 12]);
 
 fn numbers<const N: usize>(chance: &mut Chance) -> [u32; N] {
     std::array::from_fn(|_| chance.below(1024) as u32)
@@ -254,6 +258,8 @@ pub fn all() -> Vec<Row> {
     rows.extend(meshes(chance));
     rows.extend(files(chance));
     rows.push(volumes(chance));
+    #[cfg(before)]
+    rows.extend(earlier(chance));
     rows
 }
 
@@ -347,8 +353,6 @@ fn surfaces(chance: &mut Chance) -> Vec<Row> {
             (floats(chance), i0, i1, [chance.between(-1.0, 0.0), chance.between(0.0, 1.0)])
         })
         .collect();
-    let cubes: Rc<[(Place, [f64; 8])]> =
-        (0..INPUTS).map(|_| (floats(chance), floats(chance))).collect();
     vec![
         row(
             "hex iso position",
@@ -364,12 +368,56 @@ fn surfaces(chance: &mut Chance) -> Vec<Row> {
         row(
             "hex iso edges",
             "original",
-            &cubes,
+            &cubes(chance),
             |(center, values)| iso_edges(center, black_box(HALF_WIDTH), values),
-            (0, [[0.0; 3]; 12]),
+            UNCUT,
+            edges_of,
+        ),
+        row_into(
+            "hex iso mask",
+            "a static table",
+            &indices(),
+            0,
+            |index, mask| plain::iso_mask(*index, mask),
+            |index, mask| isn_hex_iso_mask(*index, mask),
+        ),
+    ]
+}
+
+fn cubes(chance: &mut Chance) -> Rc<[Cube]> {
+    (0..INPUTS).map(|_| (floats(chance), floats(chance))).collect()
+}
+
+/// Every sign index.
+fn indices() -> Rc<[u32]> {
+    (0..256).collect()
+}
+
+fn edges_of((center, values): &Cube, (index, positions): &mut Edges) -> u32 {
+    isn_hex_iso_edges(center, black_box(HALF_WIDTH), values, index, positions)
+}
+
+/// What is worked out otherwise than before, beside an earlier archive.
+#[cfg(before)]
+fn earlier(chance: &mut Chance) -> Vec<Row> {
+    vec![
+        row_into(
+            "hex iso edges",
+            "the archive before",
+            &cubes(chance),
+            UNCUT,
             |(center, values), (index, positions)| {
-                isn_hex_iso_edges(center, black_box(HALF_WIDTH), values, index, positions)
+                before_isn_hex_iso_edges(center, black_box(HALF_WIDTH), values, index, positions)
             },
+            edges_of,
+        ),
+        row_into(
+            "hex iso mask",
+            "the archive before",
+            &indices(),
+            0,
+            |index, mask| before_isn_hex_iso_mask(*index, mask),
+            |index, mask| isn_hex_iso_mask(*index, mask),
         ),
     ]
 }
