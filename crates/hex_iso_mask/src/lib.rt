@@ -1,8 +1,7 @@
 // hex.rs: `ISO_EDGE` and the start of `iso_surface`, which edges of a cube the surface of value zero cuts.
 ghost use mathlib.Core.Path.{_≡_};
 ghost use Prim.Native.Nat.{_<_};
-ghost use Rattle.numbers.specs.Bits.{withBits};
-ghost use Rattle.hex_iso_mask.specs.Cut.{signIndex, cut, maskOf, isoMask, isoCut, maskTold};
+ghost use Rattle.hex_iso_mask.specs.Cut.{signIndex, maskOf, isoMask, isoCut, maskTold};
 
 // An entry of `ISO_EDGE`, or why there is none.
 pub enum IsoMask {
@@ -16,26 +15,19 @@ pub struct IsoCut {
     pub mask: u32,
 }
 
-// The edges around the bottom, 0 to 3, and those around the top, 4 to 7, in both squares at once: each goes from a corner to the next of its square.
-fn around(cubeindex: u32) -> u32
-    requires { ⌜ cubeindex < 256 ⌝ }
-    ensures { λ r. ⌜ r ≡ withBits 8 (cut cubeindex) ⌝ }
-{
-    // edges 0, 1 and 2 compare corners 0 and 1, 1 and 2, 2 and 3; edges 4, 5 and 6 compare corners 4 and 5, 5 and 6, 6 and 7
-    let next = (cubeindex >> 1) & 0x77;
-    // edge 3 compares corners 3 and 0; edge 7 compares corners 7 and 4
-    let first = (cubeindex & 0x11) << 3;
-    cubeindex ^ (next | first)
-}
-
 // An entry of `ISO_EDGE`, worked out from the two ends of each edge.
 fn cut_edges(cubeindex: u32) -> u32
     requires { ⌜ cubeindex < 256 ⌝ }
     ensures { λ r. ⌜ r ≡ maskOf cubeindex ⌝ }
 {
+    // edges 0, 1 and 2 compare corners 0 and 1, 1 and 2, 2 and 3; edges 4, 5 and 6 compare corners 4 and 5, 5 and 6, 6 and 7
+    let next = (cubeindex >> 1) & 0x77;
+    // edge 3 compares corners 3 and 0; edge 7 compares corners 7 and 4
+    let first = (cubeindex & 0x11) << 3;
+    let around = cubeindex ^ (next | first);
     // edges 8 to 11 compare corners 0 and 4, 1 and 5, 2 and 6, 3 and 7
     let upright = (cubeindex ^ (cubeindex >> 4)) & 0xf;
-    around(cubeindex) | (upright << 8)
+    around | (upright << 8)
 }
 
 pub fn iso_mask(index: u32) -> IsoMask

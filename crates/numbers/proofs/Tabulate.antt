@@ -1,7 +1,7 @@
 -- Lists by rule. Assumes nothing.
 use Prim.Native.Nat.{ℕ, zero, suc, _<_}
 use native.Mathlib.Nat.{le-of-suc-le-suc, not-suc-le-zero}
-use mathlib.Core.Path.{_≡_, refl, ap}
+use mathlib.Core.Path.{_≡_, refl, sym, ap, _∙_}
 use mathlib.Core.List.{List, _∷_, map}
 use lib.ListN.{getD}
 use Rattle.numbers.specs.Rule.{tabulate}
@@ -11,6 +11,14 @@ pub tabulate-same {ℓ} : {A : Type ℓ} (n : ℕ) (f g : ℕ → A) → tabulat
 tabulate-same zero f g e k h = absurd (not-suc-le-zero h)
 tabulate-same (suc n) f g e zero h = cc
 tabulate-same (suc n) f g e (suc k) h = tabulate-same n (λ (i : ℕ). f (suc i)) (λ (i : ℕ). g (suc i)) (cc) k (le-of-suc-le-suc h)
+
+-- two functions of anything with a number below n are the same where they are the same at one thing of each number, by one computation, and are so at
+-- everything with its number
+pub same-everywhere {ℓ} : {S : Type 0} {A : Type ℓ} {f g : S → A} (n : ℕ) (key : S → ℕ) (one : ℕ → S) → ((c : S) → key c < n)
+    → ((c : S) → f (one (key c)) ≡ f c) → ((c : S) → g (one (key c)) ≡ g c)
+    → tabulate n (λ (k : ℕ). f (one k)) ≡ tabulate n (λ (k : ℕ). g (one k)) → (c : S) → f c ≡ g c
+same-everywhere {f = f} {g = g} n key one below this that computed c =
+    sym (this c) ∙ tabulate-same n (λ (k : ℕ). f (one k)) (λ (k : ℕ). g (one k)) computed (key c) (below c) ∙ that c
 
 -- what stands at an index is what the rule says
 pub tabulate-at {ℓ} : {A : Type ℓ} (n : ℕ) (f : ℕ → A) (d : A) (k : ℕ) → k < n → getD (tabulate n f) k d ≡ f k
