@@ -39,7 +39,7 @@ maskTold (Refused n) = refused n
 abbrev pub MaskToldLosesNothing : Type 0
 MaskToldLosesNothing = LosesNothing maskTold
 
--- of a cube with these corner values its sign index and its mask
+-- of a cube with these corner values "the sign index", and its mask
 abbrev pub isoCut : List Float → IsoCut
 isoCut value = record { index = signIndex value; mask = maskOf (signIndex value) }
 

@@ -1,5 +1,5 @@
-// hex.rs: `ISO_EDGE`, the table that the library works out. Each of its entries is proved to be the mask of its index, and this program compares them
-// with what the library answers when it runs. stdout holds what it has to print.
+// hex.rs: `ISO_EDGE`, the table that the library works out. Each of its entries is proved to be the mask of its index, and so what the library answers;
+// and the program compares the two when it runs. stdout holds what it has to print.
 use hex_iso_mask::IsoMask;
 use libc::STDOUT_FILENO;
 ghost use mathlib.Core.Path.{_≡_};
