@@ -3,6 +3,7 @@ pub mod Expression
 pub mod Expand
 pub mod Collect
 pub mod Solve
+pub mod Sums
 pub mod Slopes
 pub mod Sizes
 pub mod Straight

@@ -75,7 +75,7 @@ middle-is f j k hf =
 ring-corner : (f j : ℕ) → f < 6 → ring f j < 8
 ring-corner f j h = let less : j % 4 < 4 = mod-lt j (omega arith) in face-corner (4 * f + j % 4) (omega arith)
 
-grid-at : (f : ℕ → ℕ → ℕ) (a b : ℕ) → a < 8 → b < 8 → getD (grid 8 8 f) (8 * a + b) 0 ≡ f a b
+pub grid-at : (f : ℕ → ℕ → ℕ) (a b : ℕ) → a < 8 → b < 8 → getD (grid 8 8 f) (8 * a + b) 0 ≡ f a b
 grid-at f a b ha hb =
     let row : (8 * a + b) / 8 ≡ a = omega arith in
     let place : (8 * a + b) % 8 ≡ b = omega arith in

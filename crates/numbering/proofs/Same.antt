@@ -1,6 +1,6 @@
 -- Node lists are the same where they have the same members, and rings where one is a turn of the other: a turn of a turn is a turn. So the sameness of edges,
 -- faces and centres is fit to number by, whichever of the two faces go by. Assumes nothing.
-use Prim.Native.Nat.{ℕ, zero, suc, _*_, _%_, _<_}
+use Prim.Native.Nat.{ℕ, suc, _*_, _%_, _<_}
 use native.Mathlib.Nat.{mod-lt}
 use native.Mathlib.Omega.{arith}
 use mathlib.Core.Path.{_≡_, refl, sym, ap, _∙_}
@@ -12,6 +12,7 @@ use lib.ListN.{length, getD}
 use Rattle.numbers.specs.Rule.{all}
 use Rattle.numbers.proofs.All.{left-true, right-true, all-each, all-where, any-found, any-has}
 use Rattle.numbers.proofs.Cases.{cases, never, is-false, eqb-sym}
+use Rattle.numbers.proofs.FirstMet.{member-among}
 use Rattle.numbers.proofs.Tests.{all-at, all-at-pair}
 use Rattle.numbers.specs.FirstMet.{among, Sameness}
 use Rattle.numbering.specs.Refinement.{Thing, edge, face, centre, within, sameNodes, turned, agree, sameRing, sameBy, SameThings}
@@ -59,6 +60,32 @@ same-nodes =
       swap = λ ps qs. and-comm (within eqb ps qs) (within eqb qs ps);
       across = λ ps qs rs h k. by-members ps rs (λ x. members ps qs h x ∙ members qs rs k x);
     }
+
+-- a node of a list is among its nodes
+pub among-at : (qs : List ℕ) (k : ℕ) → k < length qs → among eqb qs (getD qs k 0) ≡ true
+among-at qs k below = member-among eqb (λ x. eq-eqb x x refl) qs 0 k below
+
+-- Two ends that are two others are these in the same order or in the other.
+pair-has : {A : Type 0} (a b x : ℕ) → among eqb (a ∷ b ∷ []) x ≡ true → (a ≡ x → A) → (b ≡ x → A) → A
+pair-has a b x h f g =
+    cases (eqb a x) (λ t. f (eqb-true a x t)) (λ m. cases (eqb b x) (λ t. g (eqb-true b x t)) (λ n. never (sym (rw (m, n) at h))))
+
+module _ {A : Type 0} (a b c d : ℕ) (one : sameNodes (a ∷ b ∷ []) (c ∷ d ∷ []) ≡ true) (kept : a ≡ c → b ≡ d → A) (swapped : a ≡ d → b ≡ c → A) where
+  pub two-orders : A
+  two-orders =
+      let there : (k : ℕ) → k < 2 → among eqb (c ∷ d ∷ []) (getD (a ∷ b ∷ []) k 0) ≡ true =
+      λ k h. sym (members (a ∷ b ∷ []) (c ∷ d ∷ []) one (getD (a ∷ b ∷ []) k 0)) ∙ among-at (a ∷ b ∷ []) k h in
+      let here : (k : ℕ) → k < 2 → among eqb (a ∷ b ∷ []) (getD (c ∷ d ∷ []) k 0) ≡ true =
+      λ k h. members (a ∷ b ∷ []) (c ∷ d ∷ []) one (getD (c ∷ d ∷ []) k 0) ∙ among-at (c ∷ d ∷ []) k h in
+      pair-has c d a (there 0 (omega arith))
+      (λ c-a.
+      pair-has a b d (here 1 (omega arith))
+      (λ a-d. pair-has c d b (there 1 (omega arith)) (λ c-b. kept (sym c-a) (sym c-b ∙ c-a ∙ a-d)) (λ d-b. kept (sym c-a) (sym d-b)))
+      (λ b-d. kept (sym c-a) b-d))
+      (λ d-a.
+      pair-has a b c (here 0 (omega arith))
+      (λ a-c. pair-has c d b (there 1 (omega arith)) (λ c-b. swapped (sym d-a) (sym c-b)) (λ d-b. swapped (sym d-a) (sym d-b ∙ d-a ∙ a-c)))
+      (λ b-c. swapped (sym d-a) b-c))
 
 -- ps is qs gone round from node `start` on, back or forward
 pub record Round (ps qs : List ℕ) : Type 0 where
@@ -172,12 +199,6 @@ same-rings =
           (λ h. is-round ps qs (round-back qs ps (round qs ps h)));
       across = λ ps qs rs h k. is-round ps rs (then-round ps qs rs (round ps qs h) (round qs rs k));
     }
-
--- a node of a list is among its nodes
-pub among-at : (qs : List ℕ) (k : ℕ) → k < length qs → among eqb qs (getD qs k 0) ≡ true
-among-at [] k below = absurd (omega arith)
-among-at (q ∷ qs) zero below = rw (eq-eqb q q refl)
-among-at (q ∷ qs) (suc k) below = rw (among-at qs k (omega arith)) (or-true (eqb q (getD qs k 0)))
 
 -- of four nodes and a list that each of them is among
 pub all-within : (ps qs : List ℕ) → length ps ≡ 4 → ((j : ℕ) → j < 4 → among eqb qs (getD ps j 0) ≡ true) → within eqb ps qs ≡ true

@@ -7,7 +7,8 @@ use mathlib.Core.Path.{_≡_, refl, sym, ap, _∙_}
 use mathlib.Core.Bool.{Bool, true, false, _||_, or-true, or-false}
 use mathlib.Core.List.{List, [], _∷_, _++_, append-assoc, append-nil}
 use mathlib.Core.Logic.{⊎-elim}
-use lib.ListN.{length, length-append}
+use lib.ListN.{length, getD, length-append, List·getD-append}
+use lib.Seq.{getD-append-add}
 use Rattle.numbers.specs.Rule.{tabulate, placeOf}
 use Rattle.numbers.proofs.Cases.{never, is-false}
 use Rattle.numbers.proofs.Prefix.{tabulate-past}
@@ -32,6 +33,14 @@ pub chain-length : {A : Type 0} (w : ℕ) (f : ℕ → List A) → ((d : ℕ) �
 unfolding chain
 chain-length w f h zero = let none : 0 ≡ w * 0 = omega arith in none
 chain-length w f h (suc c) = rw (length-append (chain c f) (f c), h c, chain-length w f h c, mul-suc)
+
+-- what stands in the part of one cell, where each part is w long
+pub chain-at : {A : Type 0} (w : ℕ) (f : ℕ → List A) → ((c : ℕ) → length (f c) ≡ w) → (d : A) (c n j : ℕ) → c < n → j < w
+    → getD (chain n f) (w * c + j) d ≡ getD (f c) j d
+chain-at w f long d c n j below inside =
+    let past = chain-past c n f below in
+    rw (past .1, ← chain-length w f long c)
+    (getD-append-add (chain c f) (f c ++ past .0) j d ∙ List·getD-append (f c) (past .0) d j (rw (long c) inside))
 
 either : (a b : Bool) {A : Type 0} → (a ≡ true → A) → (b ≡ true → A) → (a || b) ≡ true → A
 either true b f g h = f refl

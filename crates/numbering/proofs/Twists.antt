@@ -27,7 +27,7 @@ use Rattle.numbering.proofs.Steps.{chain-has, chain-found, tabulate-has
 
 -- every member of a chain
 module _ {A : Type 0} (P : A → Type 0) where
-  every-chain : (m : ℕ) (f : ℕ → List A) → ((c : ℕ) → c < m → Every P (f c)) → Every P (chain m f)
+  pub every-chain : (m : ℕ) (f : ℕ → List A) → ((c : ℕ) → c < m → Every P (f c)) → Every P (chain m f)
   unfolding chain
   every-chain zero f h = tt
   every-chain (suc m) f h = every-append P (chain m f) (f m) (every-chain m f (λ c below. h c (omega arith))) (h m (omega arith))

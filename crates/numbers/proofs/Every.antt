@@ -3,6 +3,7 @@ use Prim.Native.Nat.{ℕ, zero, suc, _<_}
 use native.Mathlib.Nat.{le-of-suc-le-suc, not-suc-le-zero}
 use native.Mathlib.Omega.{arith}
 use mathlib.Core.List.{List, [], _∷_, _++_}
+use lib.ListN.{length, getD}
 use Rattle.numbers.specs.Rule.{tabulate}
 
 abbrev pub Every : {A : Type 0} → (A → Type 0) → List A → Type 0
@@ -30,6 +31,11 @@ module _ {A : Type 0} (P : A → Type 0) where
   every-at zero f h k below = absurd (not-suc-le-zero below)
   every-at (suc n) f h zero below = h .0
   every-at (suc n) f h (suc k) below = every-at n (λ (k : ℕ). f (suc k)) (h .1) k (le-of-suc-le-suc below)
+
+  pub every-member : (xs : List A) (d : A) → Every P xs → (k : ℕ) → k < length xs → P (getD xs k d)
+  every-member [] d h k below = absurd (not-suc-le-zero below)
+  every-member (x ∷ xs) d h zero below = h .0
+  every-member (x ∷ xs) d h (suc k) below = every-member xs d (h .1) k (le-of-suc-le-suc below)
 
 -- what follows from one thing, and from two, that hold of every member
 pub every-then : {A : Type 0} (P Q : A → Type 0) → ((x : A) → P x → Q x) → (xs : List A) → Every P xs → Every Q xs

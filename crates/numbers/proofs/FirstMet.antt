@@ -1,5 +1,5 @@
 -- What is first met, for any sameness: what is met stays met at its place, and a new thing is put behind. Assumes nothing.
-use Prim.Native.Nat.{ℕ, suc, _<_}
+use Prim.Native.Nat.{ℕ, zero, suc, _<_}
 use native.Mathlib.Nat.{le-of-suc-le-suc, not-suc-le-zero, eq-or-lt-of-le}
 use native.Mathlib.Numerals.{add-one}
 use native.Mathlib.Omega.{arith}
@@ -38,6 +38,17 @@ module _ {A : Type 0} (same : A → A → Bool) where
       cases (same y x)
       (λ t. rw t (omega arith))
       (λ f. let below = place-below xs x (rw f at h) in rw f (omega arith))
+
+  -- at its place stands what is the same
+  pub place-same : (xs : List A) (x d : A) → among same xs x ≡ true → same (getD xs (placeOf same xs x) d) x ≡ true
+  place-same [] x d h = never (sym h)
+  place-same (y ∷ xs) x d h = cases (same y x) (λ t. rw t t) (λ f. rw f (place-same xs x d (rw f at h)))
+
+  -- what stands in a list is among it
+  pub member-among : ((x : A) → same x x ≡ true) → (xs : List A) (d : A) (k : ℕ) → k < length xs → among same xs (getD xs k d) ≡ true
+  member-among self [] d k below = absurd (not-suc-le-zero below)
+  member-among self (x ∷ xs) d zero below = rw (self x)
+  member-among self (x ∷ xs) d (suc k) below = rw (member-among self xs d k (le-of-suc-le-suc below)) (or-true (same x (getD xs k d)))
 
   pub meet-append : (met xs ys : List A) → meet same met (xs ++ ys) ≡ meet same (meet same met xs) ys
   unfolding meet

@@ -2,8 +2,8 @@
 use Prim.Native.Nat.{ℕ, zero, suc, _<_}
 use native.Mathlib.Nat.{le-of-suc-le-suc, not-suc-le-zero}
 use mathlib.Core.Path.{_≡_, refl, sym, ap, _∙_}
-use mathlib.Core.List.{List, _∷_, map}
-use lib.ListN.{getD}
+use mathlib.Core.List.{List, [], _∷_, map}
+use lib.ListN.{length, getD}
 use Rattle.numbers.specs.Rule.{tabulate}
 
 -- two rules that give the same list are the same at each index: so a rule is proved at all of them by one computation
@@ -31,6 +31,14 @@ pub tabulate-holds {ℓ} : {A : Type ℓ} (P : A → Type 0) (n : ℕ) (f : ℕ 
 tabulate-holds P zero f d each behind i = behind
 tabulate-holds P (suc n) f d each behind zero = each 0
 tabulate-holds P (suc n) f d each behind (suc i) = tabulate-holds P n (λ (k : ℕ). f (suc k)) d (λ k. each (suc k)) behind i
+
+-- a list is what stands at its places
+pub tabulate-back {ℓ} : {A : Type ℓ} (xs : List A) (n : ℕ) (d : A) → length xs ≡ n → tabulate n (λ (k : ℕ). getD xs k d) ≡ xs
+tabulate-back xs n d long = ap (λ (m : ℕ). tabulate m (λ (k : ℕ). getD xs k d)) (sym long) ∙ whole xs
+  where
+    whole : (l : List _) → tabulate (length l) (λ (k : ℕ). getD l k d) ≡ l
+    whole [] = refl
+    whole (x ∷ l) = ap (λ (m : List _). x ∷ m) (whole l)
 
 -- a rule, and what is made of each
 pub map-tabulate : {A B : Type 0} (g : A → B) (n : ℕ) (f : ℕ → A) → map g (tabulate n f) ≡ tabulate n (λ (k : ℕ). g (f k))

@@ -51,6 +51,11 @@ behind s r e =
     let grid = then-answered (gridNumbers (file .value .coords)) _ r (file .next) in
     record { mesh = file .value; numbers = grid .value; file = file .is; on-grid = grid .is; is = sym (answered-same (grid .next)) }
 
+pub report-is : (s : List ℕ) (m : Mesh) (numbers : List ℤ) (r : Report) → meshOf s ≡ answered m → gridNumbers (m .coords) ≡ answered numbers
+    → reportOf s ≡ answered r → r ≡ meshReport numbers (m .corners) (m .cells)
+unfolding reportOf
+report-is s m numbers r file grid e = sym (answered-same (rw (file, grid) at e))
+
 pub total-is-the-sum : TotalIsTheSum
 total-is-the-sum =
     record {
