@@ -1,12 +1,12 @@
 -- The worked examples of document 01 that are marked P, and those of document 02's requests, each on the definition that the contracts cite.
 -- Definitions and the claim only.
-use Prim.Native.Nat.{ℕ}
+use Prim.Native.Nat.{ℕ, _+_, _*_}
 use mathlib.Core.Path.{_≡_}
 use mathlib.Core.Bool.{Bool, true, false, cond}
 use mathlib.Core.List.{List, [], _∷_, _++_, map}
 use lib.Dec.{eqb}
 use lib.Ieee.{Float, binary64, ofBits}
-use lib.IntN.{ℤ, pos, negsuc}
+use lib.IntN.{ℤ, pos, negsuc, negℤ}
 use lib.ListN.{set, getD}
 use Rattle.numbers.specs.Rule.{tabulate, grid}
 use Rattle.binary64.specs.Binary64.{f0, f1, m1}
@@ -18,16 +18,19 @@ use Rattle.hex_iso_mask.specs.Cut.{maskOf, isoMask}
 use Rattle.hex_iso_position.specs.Position.{isoPosition}
 use Rattle.probe.specs.Check.{checked}
 use Rattle.descendant.specs.Place.{descended}
+use Rattle.integers.specs.Sums.{sumTo}
 use Rattle.exact_volume.specs.Volume.{volume216}
+use Rattle.metal.specs.Metal.{childAxis, childVolume}
 use Rattle.hxm.specs.Format.{fileOf}
 use Rattle.hxm_write.specs.Writes.{meshOfLists, fileInto, lengthOf}
 use Rattle.numbering.specs.Refinement.{sameNodes, sameRing, nextBy}
 use Rattle.refine.specs.Refine.{refined}
+use Rattle.metal_mesh.specs.Mesh.{standsAt, childrenHold, cellsHold}
 use Rattle.volume_lines.specs.Lines.{printed}
 use Rattle.worked_examples.specs.IsoEdge.{isoEdge}
 
 -- what an entry answers: floats, a whole number, a place in whole numbers, an acceptance, or the bytes of a file; or what a lent buffer holds then; or what a
--- definition decides, or its whole number, or its numbers at all places
+-- definition decides, or its whole number or numbers, or its numbers at all places
 pub data Said : Type 0 where
   floats : Answer (List Float) → Said
   number : Answer ℕ → Said
@@ -37,6 +40,7 @@ pub data Said : Type 0 where
   buffer : List ℕ → Said
   decided : Bool → Said
   whole : ℤ → Said
+  wholes : List ℤ → Said
   table : List ℕ → Said
 
 -- which example it is: the P number of document 01, or the number of document 02's request
@@ -123,7 +127,7 @@ sample =
 abbrev besides : List ℕ → List ℕ
 besides cell = tabulate 8 (λ (k : ℕ). k) ++ cell
 
-abbrev glued : List ℕ
+abbrev pub glued : List ℕ
 glued = besides (1 ∷ 8 ∷ 9 ∷ 2 ∷ 5 ∷ 11 ∷ 10 ∷ 6 ∷ [])
 
 -- face 4 of the second cell runs 5, 1, 6, 2
@@ -131,7 +135,7 @@ abbrev spoiled : List ℕ
 spoiled = besides (1 ∷ 8 ∷ 9 ∷ 5 ∷ 6 ∷ 11 ∷ 10 ∷ 2 ∷ [])
 
 -- the corners of a box at zero on axis i; and the cell's corner 6 drawn onto corner 0
-abbrev side : ℕ → ℕ → ℕ → ℤ
+abbrev pub side : ℕ → ℕ → ℕ → ℤ
 side i long k = cond (upper k i) (pos long) (pos 0)
 
 abbrev drawn : ℕ → ℕ → ℤ
@@ -145,13 +149,43 @@ abbrev block : ℤ
 block =
     volume216 (along (0 ∷ 4 ∷ 5 ∷ 0 ∷ 0 ∷ 4 ∷ 5 ∷ 0 ∷ [])) (along (0 ∷ 0 ∷ 3 ∷ 3 ∷ 0 ∷ 1 ∷ 4 ∷ 3 ∷ [])) (along (0 ∷ 0 ∷ 0 ∷ 1 ∷ 6 ∷ 6 ∷ 7 ∷ 6 ∷ []))
 
+-- what a cell holds, whose corner k stands at x i k on axis i; then its children together, and each
+abbrev pub held : (ℕ → ℕ → ℤ) → Said
+held x = wholes (volume216 (x 0) (x 1) (x 2) ∷ sumTo 8 (childVolume (x 0) (x 1) (x 2)) ∷ tabulate 8 (childVolume (x 0) (x 1) (x 2)))
+
+-- the cube [0,2]^3 with corner 6 at (3,3,3), and with corners 0 and 6 exchanged; a cell with all its corners on z = 0
+abbrev pub bent : ℕ → ℕ → ℤ
+bent i k = cond (eqb k 6) (pos 3) (side i 2 k)
+
+abbrev pub folded : ℕ → ℕ → ℤ
+folded i k = side i 2 (cond (eqb k 0) 6 (cond (eqb k 6) 0 k))
+
+abbrev pub flat : ℕ → ℕ → ℤ
+flat i k = cond (eqb i 2) (pos 0) (bent i k)
+
+-- the number n below zero, and n of a number
+abbrev less : ℕ → ℤ
+less n = negℤ (pos n)
+
+abbrev times : ℕ → ℤ → List ℤ
+times n v = tabulate n (λ (k : ℕ). v)
+
+-- twelve nodes of two cells that share a face
+abbrev pub crooked : ℕ → ℕ → ℤ
+crooked i k =
+    getD
+    (less 5 ∷ less 4 ∷ less 4 ∷ pos 0 ∷ less 3 ∷ pos 5 ∷ less 1 ∷ less 1 ∷ pos 4 ∷ less 2 ∷ pos 4 ∷ less 5
+    ∷ pos 4 ∷ pos 5 ∷ less 3 ∷ pos 1 ∷ pos 5 ∷ pos 1 ∷ pos 3 ∷ pos 0 ∷ pos 3 ∷ pos 2 ∷ pos 3 ∷ less 1
+    ∷ less 5 ∷ less 5 ∷ pos 0 ∷ pos 2 ∷ pos 0 ∷ pos 1 ∷ pos 1 ∷ pos 3 ∷ less 3 ∷ pos 3 ∷ less 3 ∷ less 2 ∷ [])
+    (3 * k + i) (pos 0)
+
 -- the file of the cube [0,2]^3, which is crates/hexvol/stdin: its upper sides are at 0x4000_0000_0000_0000
 abbrev cubeFile : List ℕ
 cubeFile =
     fileOf (meshOfLists (grid 8 3 (λ (k i : ℕ). cond (upper k i) 0x4000_0000_0000_0000 0)) (tabulate 8 (λ (k : ℕ). k)))
 
-abbrev pub examples : List Example
-examples =
+abbrev pub earlier : List Example
+earlier =
     -- "P1 Hex shape at (1,1,1): 1 at node 6, +0 elsewhere. P2 Prism at (0,0,1): 1 at node 3."
     example 1 (floats (answered (Hex.shape (f1 ∷ f1 ∷ f1 ∷ [])))) (floats (answered (oneAt 8 6)))
     ∷ example 2 (floats (answered (Prism.shape (f0 ∷ f0 ∷ f1 ∷ [])))) (floats (answered (oneAt 6 3)))
@@ -203,6 +237,34 @@ examples =
     -- 4/12: the masks worked out, and the table that they were in
     ∷ requested 4 (table (tabulate 256 maskOf)) (table isoEdge)
     ∷ []
+
+abbrev pub metal : List Example
+metal =
+    -- 5/12: the cube [0,2]^3, its children together and each; with corner 6 at (3,3,3); and where child 6 of this one stands
+    requested 5 (held (λ (i : ℕ). side i 2)) (wholes (pos 1728 ∷ pos 884736 ∷ times 8 (pos 110592)))
+    ∷ requested 5 (held bent)
+    (wholes (pos 2376 ∷ pos 1216512
+    ∷ pos 120960 ∷ pos 134784 ∷ pos 162432 ∷ pos 134784 ∷ pos 134784 ∷ pos 162432 ∷ pos 203904 ∷ pos 162432 ∷ []))
+    ∷ requested 5 (wholes (grid 8 3 (λ (k i : ℕ). childAxis (bent i) 6 k)))
+    (wholes (pos 9 ∷ pos 9 ∷ pos 9 ∷ pos 18 ∷ pos 10 ∷ pos 10 ∷ pos 20 ∷ pos 20 ∷ pos 12 ∷ pos 10 ∷ pos 18 ∷ pos 10
+    ∷ pos 10 ∷ pos 10 ∷ pos 18 ∷ pos 20 ∷ pos 12 ∷ pos 20 ∷ pos 24 ∷ pos 24 ∷ pos 24 ∷ pos 12 ∷ pos 20 ∷ pos 20 ∷ []))
+    -- folded, with corners 0 and 6 exchanged; flat; and of side 2,048
+    ∷ requested 5 (held folded)
+    (wholes (less 864 ∷ less 442368 ∷ less 96768 ∷ times 5 (less 41472) ++ (less 96768 ∷ less 41472 ∷ [])))
+    ∷ requested 5 (held flat) (wholes (times 10 (pos 0)))
+    ∷ requested 5 (held (λ (i : ℕ). side i 2048)) (wholes (pos 1855425871872 ∷ pos 949978046398464 ∷ times 8 (pos 118747255799808)))
+    -- two cells that share a face, and their sixteen children; the middle of that face, number 26, at twice the sum of nodes 1, 2, 6 and 5; no cells
+    ∷ requested 5
+    (wholes (cellsHold (crooked 0) (crooked 1) (crooked 2) glued ∷ childrenHold (crooked 0) (crooked 1) (crooked 2) 12 glued ∷ []))
+    (wholes (less 5724 ∷ less 2930688 ∷ []))
+    ∷ requested 5 (wholes (tabulate 3 (λ (i : ℕ). standsAt (crooked i) 12 glued 26))) (wholes (pos 6 ∷ pos 2 ∷ pos 26 ∷ []))
+    ∷ requested 5
+    (wholes (cellsHold (crooked 0) (crooked 1) (crooked 2) [] ∷ childrenHold (crooked 0) (crooked 1) (crooked 2) 12 [] ∷ []))
+    (wholes (times 2 (pos 0)))
+    ∷ []
+
+abbrev pub examples : List Example
+examples = earlier ++ metal
 
 -- "The P examples are one list with a single proved claim on the definitions"
 abbrev pub ExamplesHold : Type 0

@@ -1,0 +1,3 @@
+pub mod Middles
+pub mod Mesh
+pub mod Report
