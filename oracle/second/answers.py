@@ -277,14 +277,17 @@ def check_proposals(cell, records, room):
 # ---- the mesh ----
 
 
+# The 27 of a cell, corners, edges, faces and the centre: the corners in the middle of which each stands.
+MIDDLES = [(k,) for k in range(8)] + EDGE2NODE + FACE2NODE + [tuple(range(8))]
+
+
 def slots():
-    """For child i and corner k, at 8 i + k: which of the 27 (corners, edges, faces, centre) it names.
+    """For child i and corner k, at 8 i + k: which of the 27 it names.
 
     The geometric rule: the one that stands at (sign i + sign k) / 2, here doubled twice over.
     """
-    groups = [(k,) for k in range(8)] + EDGE2NODE + FACE2NODE + [tuple(range(8))]
     stands = {}
-    for slot, nodes in enumerate(groups):
+    for slot, nodes in enumerate(MIDDLES):
         middle = tuple(8 // len(nodes) * sum(HEX_SIGN[k][axis] for k in nodes) for axis in range(3))
         stands[middle] = slot
     return [
@@ -526,3 +529,37 @@ def volume_text(data):
     lines = [f"{k} {volume}" for k, volume in enumerate(volumes)]
     lines += [f"total {total}", f"first {first}" if first < cells else "first none"]
     return "".join(f"{line}\n" for line in lines)
+
+
+# ---- a mesh and its children: document 02, 5/12 ----
+
+
+def refined_mesh(grid, numbers):
+    """The children of a mesh on a grid eight times as fine: the coordinates of all numbers, three each, and eight numbers a child.
+
+    There all are whole: a node's are 8 times its own, an edge's middle has 4 times the sum of its ends, a face's twice that of its corners, a centre
+    the sum of all eight.
+    """
+    number, outputs = refine(len(grid) // 3, numbers, 8 * len(numbers))
+    if number != 0:
+        raise AssertionError(f"a mesh with children is refused {number}: {numbers}")
+    free, children = outputs
+    places = {node: [8 * v for v in grid[3 * node : 3 * node + 3]] for node in range(len(grid) // 3)}
+    for at, name in enumerate(children):
+        nodes = [numbers[at // 64 * 8 + k] for k in MIDDLES[SLOTS[at % 64]]]
+        place = [8 // len(nodes) * sum(grid[3 * node + axis] for node in nodes) for axis in range(3)]
+        if places.setdefault(name, place) != place:
+            raise AssertionError(f"number {name} stands at {places[name]} and at {place}: {numbers}")
+    return [v for name in range(free) for v in places[name]], children
+
+
+def hold_metal(parents, children):
+    """Of two reports: the eight children of each cell hold 512 times what it holds, and all children 512 times the total."""
+    total, _, _, volumes = parents
+    sum_of_all, count, _, smaller = children
+    held = [(f"cell {k}", volume, sum(smaller[8 * k : 8 * k + 8])) for k, volume in enumerate(volumes)]
+    for name, volume, together in [*held, ("the mesh", total, sum_of_all)]:
+        if together != 512 * volume:
+            raise AssertionError(f"{name} holds {volume}, and its children {together}, not {512 * volume}")
+    if count != 8 * len(volumes):
+        raise AssertionError(f"{len(volumes)} cells have {count} children")

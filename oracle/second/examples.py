@@ -5,7 +5,7 @@ import struct
 from collections import Counter
 
 from answers import HEX_SIGN, Cell, Place, by_nodes, by_sides, check, descendant, hxm_read, hxm_write, locate_checked, refine, refine_01
-from answers import volume_report, volume_text
+from answers import hold_metal, refined_mesh, volume_report, volume_text
 
 CHILDREN = """
 0 8 20 11 16 21 26 24
@@ -32,6 +32,7 @@ def hold():
     hold_rings()
     hold_twisted()
     hold_volumes()
+    hold_children()
 
 
 def hold_scope():
@@ -147,16 +148,19 @@ def hold_twisted():
     assert hxm_read(data, 36, 16) == (0, (12, 2, (0,) * 36, (*cell, *twisted)))
 
 
+def solid(corners, *cells):
+    """A file with a node for each corner, and these cells."""
+    floats, numbers = sum(corners, ()), sum(cells, [])
+    return b"HXM" + struct.pack(f"<HII{len(floats)}d{len(numbers)}I", 1, len(corners), len(cells), *floats, *numbers)
+
+
+def box(a, b, c):
+    return [(a * (x > 0), b * (y > 0), c * (z > 0)) for x, y, z in HEX_SIGN]
+
+
 def hold_volumes():
     """Document 02, 3/12."""
     cell, mirror = list(range(8)), [0, 3, 2, 1, 4, 7, 6, 5]
-
-    def solid(corners, *cells):
-        """A file with a node for each corner, and these cells."""
-        floats, numbers = sum(corners, ()), sum(cells, [])
-        return b"HXM" + struct.pack(f"<HII{len(floats)}d{len(numbers)}I", 1, len(corners), len(cells), *floats, *numbers)
-
-    box = lambda a, b, c: [(a * (x > 0), b * (y > 0), c * (z > 0)) for x, y, z in HEX_SIGN]
     volumes = lambda corners, *cells: volume_report(solid(corners, *cells), len(cells))
     text = lambda corners, *cells: volume_text(solid(corners, *cells))
     cube, unit, flat = box(2, 2, 2), box(1, 1, 1), box(2, 2, 0)
@@ -195,3 +199,32 @@ def hold_volumes():
     assert volume_report(solid(cube, cell), 9) == volumes(cube, cell)
     twisted = [1, 8, 9, 5, 6, 11, 10, 2]
     assert volumes(cube + block[:4], cell, twisted)[0] == 0
+
+
+def hold_children():
+    """Document 02, 5/12."""
+    cell = list(range(8))
+
+    def held(corners, *cells):
+        """The reports of a mesh and of its children, and where the children's numbers stand."""
+        fine, children = refined_mesh(sum(corners, ()), sum(cells, []))
+        places = [tuple(fine[i : i + 3]) for i in range(0, len(fine), 3)]
+        numbers = [children[i : i + 8] for i in range(0, len(children), 8)]
+        (_, parents), (_, reported) = volume_report(solid(corners, *cells), 128), volume_report(solid(places, *numbers), 128)
+        hold_metal(parents, reported)
+        return (parents[0], reported[0], reported[3]), places, numbers
+
+    cube = box(2, 2, 2)
+    assert held(cube, cell)[0] == (1728, 884736, [110592] * 8)
+    numbers, places, children = held([*cube[:6], (3, 3, 3), cube[7]], cell)
+    assert numbers == (2376, 1216512, [120960, 134784, 162432, 134784, 134784, 162432, 203904, 162432])
+    stands = [(9, 9, 9), (18, 10, 10), (20, 20, 12), (10, 18, 10), (10, 10, 18), (20, 12, 20), (24, 24, 24), (12, 20, 20)]
+    assert [places[number] for number in children[6]] == stands
+    folded = held([cube[6], *cube[1:6], cube[0], cube[7]], cell)[0]
+    assert folded == (-864, -442368, [-96768, *[-41472] * 5, -96768, -41472])
+    assert held(box(2, 2, 0), cell)[0] == (0, 0, [0] * 8)
+    nodes = [(-5, -4, -4), (0, -3, 5), (-1, -1, 4), (-2, 4, -5), (4, 5, -3), (1, 5, 1), (3, 0, 3), (2, 3, -1)]
+    nodes += [(-5, -5, 0), (2, 0, 1), (1, 3, -3), (3, -3, -2)]
+    numbers, places, _ = held(nodes, cell, [1, 8, 9, 2, 5, 11, 10, 6])
+    assert numbers[:2] == (-5724, -2930688)
+    assert places[26] == tuple(2 * sum(nodes[k][axis] for k in (1, 2, 6, 5)) for axis in range(3))

@@ -30,7 +30,7 @@ BOUNDARY = {
     "descendant": meshes.boundary_descendant,
     "hxm_read": meshes.boundary_files,
     "hxm_write": meshes.boundary_writes,
-    "volume_report": volumes.boundary_reports,
+    "volume_report": volumes.boundary_with_pairs,
 }
 RANDOM = {
     "check": cells.random_check,
@@ -40,8 +40,10 @@ RANDOM = {
     "descendant": meshes.random_descendant,
     "hxm_read": meshes.random_files,
     "hxm_write": meshes.random_writes,
-    "volume_report": volumes.random_reports,
+    "volume_report": volumes.random_with_pairs,
 }
+# What the sample is drawn from where that is not all of these: from more cases another one would be drawn, and the stored one is to stay.
+SAMPLED = {"volume_report": (volumes.boundary_reports, volumes.random_reports)}
 
 SAMPLE_SEED = "sample 1"
 # How many cases of a function a sample takes for each tag and number, and in all; how many are looked through.
@@ -57,12 +59,13 @@ SAMPLE = {
 }
 
 
-def cases(name, count, seed):
+def cases(name, count, seed, sources=None):
     """All boundary cases, then random ones until there are `count`."""
+    at_boundaries, at_random = sources or (BOUNDARY[name], RANDOM[name])
     rng = random.Random(f"{seed} {name}")
-    boundary = list(BOUNDARY[name]())
+    boundary = list(at_boundaries())
     yield from boundary
-    yield from itertools.islice(RANDOM[name](rng), max(count - len(boundary), 0))
+    yield from itertools.islice(at_random(rng), max(count - len(boundary), 0))
 
 
 def answered(case, held):
@@ -94,14 +97,22 @@ def stream(names, count, seed, out):
     held = Counter()
     written = 0
     for name in names:
+        before = None
         for case in cases(name, count, seed):
-            function, _, arguments = case
-            out.write(records.stream_record(function, arguments, answered(case, held)))
+            function, tag, arguments = case
+            answer = answered(case, held)
+            if tag == "children":  # behind their parents
+                answers.hold_metal(before[1], answer[1])
+                held["pairs"] += 1
+            out.write(records.stream_record(function, arguments, answer))
+            before = answer
             written += 1
     out.write(records.stream_end(written))
     if "refine" in names:
         said = f"{held['numbered']} numbered and {held['refused']} refused as by document 01's rule, {held['twisted']} twisted"
         print(f"second.py: meshes to refine: {said}", file=sys.stderr)
+    if "volume_report" in names:
+        print(f"second.py: {held['pairs']} meshes whose children hold 512 times as much, cell by cell", file=sys.stderr)
     print(f"second.py: {held['promised']} cases as their tags promise", file=sys.stderr)
 
 
@@ -117,7 +128,7 @@ def sample_of(name):
     each, most, count = SAMPLE[name]
     rng = random.Random(f"{SAMPLE_SEED} {name}")
     kinds = {}
-    for position, case in enumerate(cases(name, count, SAMPLE_SEED)):
+    for position, case in enumerate(cases(name, count, SAMPLE_SEED, SAMPLED.get(name))):
         function, tag, arguments = case
         answer = answered(case, Counter())
         words = records.sample_words(function, arguments, answer)

@@ -1,18 +1,20 @@
 """Cases of the volume report.
 
-`boundary_reports` are the same every time; `random_reports` go on for ever and follow the generator they are given.
+`boundary_reports` and `boundary_pairs` are the same every time; `random_reports` and `random_pairs` go on for ever and follow the generator they are
+given. A pair is a mesh and its children, one case behind the other.
 """
 
 import itertools
 import struct
 
-from answers import HEX_SIGN, MOST_CELLS, MOST_GRID, MOST_NODES
+from answers import HEX_SIGN, MOST_CELLS, MOST_GRID, MOST_NODES, refined_mesh, twisted
 from meshes import TOP, TURNS, TWO_CELLS, WHOLE_CELL
 from meshes import damaged, grid, random_faults, random_few, random_mesh, random_most, spoiled, turned, twisted_pairs, written
 from records import VOLUME_REPORT
 
 # The tags of cases that have to be answered with a certain number, which the second program looks at.
 PROMISED = dict.fromkeys(("on the grid", "basis", "limits", "turned", "folded", "twisted", "first", "full", "moved", "small", "any", "ordered"), 0)
+PROMISED |= {"parents": 0, "children": 0}
 PROMISED |= {"off the grid": 15, "short": 8}
 PROMISED |= {f"{number} comes first": number for number in (0, 7, 8, 9, 10, 11, 12, 13, 15)}
 
@@ -291,21 +293,18 @@ def full_files():
 # ---- at random ----
 
 
-def clipped(v):
-    return max(-MOST_GRID, min(MOST_GRID, v))
-
-
-def moved_block(rng, most):
+def moved_block(rng, most, limit):
     """A block of cells with sides of its own on each axis, its nodes moved not at all, a little or much."""
     while True:
         shape = [rng.randint(1, rng.choice((1, 2, 3, 5, 8, 16, 32))) for _ in range(3)]
         a, b, c = shape
         if a * b * c <= most and (a + 1) * (b + 1) * (c + 1) <= MOST_NODES:
             break
-    sides = [rng.randint(1, rng.choice((4, 2 * MOST_GRID // count))) for count in shape]
-    starts = [rng.randint(-MOST_GRID, MOST_GRID - side * count) for side, count in zip(sides, shape)]
+    sides = [rng.randint(1, rng.choice((4, 2 * limit // count))) for count in shape]
+    starts = [rng.randint(-limit, limit - side * count) for side, count in zip(sides, shape)]
     far = rng.choice((0, 1, min(sides) // 2, max(sides)))
     x, y, z = [[start + side * k for k in range(count + 1)] for start, side, count in zip(starts, sides, shape)]
+    clipped = lambda v: max(-limit, min(limit, v))
     coordinates = [clipped(at + rng.randint(-far, far)) for w in z for v in y for u in x for at in (u, v, w)]
     cells = grid(a, b, c)[1]
     draw = rng.random()
@@ -321,28 +320,27 @@ def keeps_hand(turn):
     return a * (e * i - f * h) + b * (f * g - d * i) + c * (d * h - e * g) > 0
 
 
-def random_solid(rng):
-    """How it is made, the coordinates of its nodes, and its cells."""
-    most = random_most(rng)
+def random_solid(rng, most, limit):
+    """How it is made, the coordinates of its nodes, and its cells: at most so many, and coordinates of at most this size."""
     way = rng.choice(("moved", "moved", "limits", "small", "any"))
     if way == "moved":
-        return way, *moved_block(rng, most)
+        return way, *moved_block(rng, most, limit)
     n, cells = rng.choice((random_few, random_mesh))(rng, most)
     if n > 40 and rng.random() < 0.9:  # few unused nodes
         names = {v: k for k, v in enumerate(sorted(set(flat_list(cells))))}
         n, cells = min(len(names) + rng.choice((0, 0, 1)), MOST_NODES), [[names[v] for v in cell] for cell in cells]
     if way == "limits":
-        numbers = rng.choice(((-1024, 1024), (-1024, -1023, 1023, 1024), (-1024, 0, -0.0, 1024)))
+        numbers = rng.choice(((-limit, limit), (-limit, 1 - limit, limit - 1, limit), (-limit, 0, -0.0, limit)))
     elif way == "small":
         numbers = rng.choice(((0, 1), (-1, 0, 1), (0, -0.0, 1, 2), range(-3, 4)))
     else:
-        numbers = range(-MOST_GRID, MOST_GRID + 1)
+        numbers = range(-limit, limit + 1)
     return way, rng.choices(numbers, k=3 * n), cells
 
 
 def random_reports(rng):
     while True:
-        way, coordinates, cells = random_solid(rng)
+        way, coordinates, cells = random_solid(rng, random_most(rng), MOST_GRID)
         patterns, numbers = words(coordinates), flat_list(cells)
         yield VOLUME_REPORT, way, (written(patterns, numbers), len(cells) + rng.choice((0, 0, 0, 1, 5, 64)))
         if rng.random() < 0.6:
@@ -379,3 +377,90 @@ def off_grid(rng, patterns):
     for place in rng.sample(range(len(patterns)), rng.choice((1, 1, 2, 3))):
         patterns[place] = rng.choice((rng.choice(BAD_WORDS), patterns[place] ^ 1 << rng.randrange(40), patterns[place] ^ rng.randrange(1, 1 << 40)))
     return patterns
+
+
+# ---- a mesh and its children: document 02, 5/12 ----
+
+# The children have eight times as many cells, and coordinates eight times as large.
+MOST_PARENTS, COARSE = MOST_CELLS // 8, MOST_GRID // 8
+
+# The nodes of the request's two cells, bent every way.
+TWO_BENT = [-5, -4, -4, 0, -3, 5, -1, -1, 4, -2, 4, -5, 4, 5, -3, 1, 5, 1, 3, 0, 3, 2, 3, -1, -5, -5, 0, 2, 0, 1, 1, 3, -3, 3, -3, -2]
+
+
+def coarse(count):
+    """Whole numbers all over a grid with an eighth of the sides."""
+    return [v % (2 * COARSE + 1) - COARSE for v in spread(count)]
+
+
+def pair(coordinates, cells):
+    fine, children = refined_mesh(coordinates, flat_list(cells))
+    yield report("parents", coordinates, cells)
+    yield VOLUME_REPORT, "children", (written(words(fine), children), 8 * len(cells))
+
+
+def boundary_pairs():
+    for coordinates, cells in pairable():
+        yield from pair(coordinates, cells)
+
+
+def pairable():
+    """The examples of request 5/12; a one on each axis at each corner, in all triples; odd cells; all turns; no cells, and as many as there can be."""
+    cube = box(2, 2, 2)
+    bent = cube[:18] + [3, 3, 3] + cube[21:]
+    folded = cube[18:21] + cube[3:18] + cube[:3] + cube[21:]
+    for coordinates in (cube, bent, folded, box(2, 2, 0)):
+        yield coordinates, [WHOLE_CELL]
+    first, second = TWO_CELLS[:8], TWO_CELLS[8:]
+    yield TWO_BENT, [first, second]
+    for corners in itertools.product(range(8), repeat=3):
+        yield [int(corner == k) for k in range(8) for corner in corners], [WHOLE_CELL]
+    largest = box(2 * COARSE, 2 * COARSE, 2 * COARSE, at=-COARSE)
+    for coordinates in (BLOCK, largest, [-v for v in largest], coarse(24)):
+        yield from odd_pairs(coordinates)
+    for turn in TURNS:
+        yield TWO_BENT, [first, turned(second, turn)]
+        yield TWO_BENT, [turned(second, turn), first]
+        yield BLOCK, [first, turned(first, turn)]
+    for n in (0, 1, 8, MOST_NODES):
+        yield coarse(3 * n), []
+    for shape in ((16, 1, 1), (1, 16, 1), (2, 1, 8), (4, 4, 1), (2, 2, 4)):
+        n, cells = grid(*shape)
+        yield coarse(3 * n), [turned(cell, TURNS[k]) for k, cell in enumerate(cells)]
+    apart = [list(range(8 * k, 8 * k + 8)) for k in range(MOST_PARENTS)]
+    for n in (8 * MOST_PARENTS, MOST_NODES - 19 * MOST_PARENTS):  # the second has as many numbers as a file can have nodes
+        yield coarse(3 * n), apart
+
+
+def odd_pairs(coordinates):
+    """A cell as it is, mirrored, with two corners exchanged or drawn together, and flat."""
+    for cell in (WHOLE_CELL, MIRROR):
+        yield coordinates, [cell]
+    for a, b in itertools.combinations(range(8), 2):
+        yield coordinates, [[{a: b, b: a}.get(k, k) for k in range(8)]]
+        drawn = list(coordinates)
+        drawn[3 * a : 3 * a + 3] = drawn[3 * b : 3 * b + 3]
+        yield drawn, [WHOLE_CELL]
+    for axis, at in itertools.product(range(3), (-COARSE, 0, COARSE)):
+        flat = list(coordinates)
+        flat[axis::3] = [at] * 8
+        yield flat, [WHOLE_CELL]
+
+
+def random_pairs(rng):
+    while True:
+        _, coordinates, cells = random_solid(rng, rng.choice((1, 2, 4, 8, MOST_PARENTS)), COARSE)
+        if len(coordinates) // 3 + 19 * len(cells) <= MOST_NODES and not twisted(cells):
+            yield from pair(coordinates, cells)
+
+
+def boundary_with_pairs():
+    yield from boundary_reports()
+    yield from boundary_pairs()
+
+
+def random_with_pairs(rng):
+    alone, pairs = random_reports(rng), random_pairs(rng)
+    while True:
+        yield from itertools.islice(alone, 6)
+        yield from itertools.islice(pairs, 2)
