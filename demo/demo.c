@@ -1,7 +1,8 @@
 /* Where does the thermocouple sit? A probe is buried in a cast block that is meshed by one hexahedron and one prism.
  * Then a second hexahedron stands beside the block. Of this mesh the exact volumes are reported, and what it weighs; it is refined, and the node
- * numbers of the sixteen children are printed; one whose second cell is glued on with a twist is refused. Last the mesh is written as a file, the
- * file is read, and what was read is compared with what was written. */
+ * numbers of the sixteen children are printed; one whose second cell is glued on with a twist is refused. A bent cube is refined too, its children
+ * get their places, and they hold what it holds. Last the mesh is written as a file, the file is read, and what was read is compared with what was
+ * written. */
 #include <inttypes.h>
 #include <stdio.h>
 #include <string.h>
@@ -112,6 +113,57 @@ static uint32_t refine(const uint32_t mesh[16]) {
     return ISN_OK;
 }
 
+/* The cube from 0 to 2 on each axis with corner 6 drawn out to (3, 3, 3). */
+static const double bent[24] = {0, 0, 0, 2, 0, 0, 2, 2, 0, 0, 2, 0, 0, 0, 2, 2, 0, 2, 3, 3, 3, 0, 2, 2};
+
+/* A corner's sides, one bit an axis, set on the upper side; and of sides the corner. */
+static size_t sides(size_t corner) {
+    return corner ^ (corner >> 1 & 1);
+}
+
+/* Eight times the place half way between corners i and k of a cell, a whole number on a grid: the sum over the corners with each side from i or k. */
+static void half_way(const double corners[24], size_t i, size_t k, double out[3]) {
+    out[0] = out[1] = out[2] = 0;
+    for (size_t from_k = 0; from_k < 8; from_k++) {
+        const double *corner = corners + 3 * sides((sides(i) & ~from_k) | (sides(k) & from_k));
+        for (size_t axis = 0; axis < 3; axis++)
+            out[axis] += corner[axis];
+    }
+}
+
+/* total = 216 times what at most eight cells with at most 27 nodes hold, by the file of them. */
+static uint32_t total_of(const double *at, size_t at_len, const uint32_t *numbers, size_t numbers_len, int64_t *total) {
+    uint64_t words[81];
+    int64_t volumes[8];
+    uint32_t length, counts[2];
+    memcpy(words, at, at_len * sizeof *at);
+    uint32_t answer = isn_hxm_write(words, at_len, numbers, numbers_len, file, sizeof file, &length);
+    return answer == ISN_OK ? isn_volume_report(file, length, volumes, 8, total, counts) : answer;
+}
+
+/* Answers whether the children of the bent cube hold what it holds: on a grid eight times as fine that is 8 * 8 * 8 times as much. */
+static int refine_bent(void) {
+    uint32_t children[ISN_REFINED_NUMBERS], next;
+    double at[81];
+    int64_t whole, together;
+    uint32_t answer = isn_refine(8, cells, 8, children, ISN_REFINED_NUMBERS, &next);
+    if (answer == ISN_OK) {
+        for (size_t i = 0; i < 8; i++)
+            for (size_t k = 0; k < 8; k++)
+                half_way(bent, i, k, at + 3 * children[8 * i + k]);
+        answer = total_of(bent, 24, cells, 8, &whole);
+    }
+    if (answer == ISN_OK)
+        answer = total_of(at, 3 * next, children, ISN_REFINED_NUMBERS, &together);
+    if (answer != ISN_OK) {
+        say_refused(answer);
+        return 0;
+    }
+    printf("the bent cube holds %" PRId64 "\n", whole);
+    printf("its eight children hold %" PRId64 ", %s\n", together, together == 512 * whole ? "512 times as much" : "NOT 512 times as much");
+    return together == 512 * whole;
+}
+
 /* Answers whether the file gives both lists back, bit for bit. */
 static int write_and_read(void) {
     uint64_t read_nodes[36];
@@ -140,6 +192,8 @@ int main(void) {
     printf("\nThe second cell glued on with a twist: the face 1 2 6 5 of the first is 5 1 6 2 in the second.\n");
     if (refine(twisted) == ISN_REFUSED_TWISTED)
         printf("Both rings have the sides 1 5 and 2 6, and the other two differ. Look for two nodes exchanged: here 2 and 6 in the second cell.\n");
+    printf("\nA cube with a corner drawn out, refined: 216 times the volumes. The children are on a grid eight times as fine, where middles are whole.\n");
+    int kept = refine_bent();
     printf("\nThe first two cells and the places of their 12 nodes, as a mesh file.\n");
-    return write_and_read() && reported ? 0 : 1;
+    return write_and_read() && reported && kept ? 0 : 1;
 }
