@@ -5,7 +5,7 @@ import struct
 from collections import Counter
 
 from answers import HEX_SIGN, Cell, Place, by_nodes, by_sides, check, descendant, hxm_read, hxm_write, locate_checked, refine, refine_01
-from answers import hold_metal, refined_mesh, volume_report, volume_text
+from answers import hold_metal, refined_mesh, volume216, volume_report, volume_text
 
 CHILDREN = """
 0 8 20 11 16 21 26 24
@@ -216,10 +216,16 @@ def hold_children():
 
     cube = box(2, 2, 2)
     assert held(cube, cell)[0] == (1728, 884736, [110592] * 8)
-    numbers, places, children = held([*cube[:6], (3, 3, 3), cube[7]], cell)
+    bent = [*cube[:6], (3, 3, 3), cube[7]]
+    numbers, places, children = held(bent, cell)
     assert numbers == (2376, 1216512, [120960, 134784, 162432, 134784, 134784, 162432, 203904, 162432])
     stands = [(9, 9, 9), (18, 10, 10), (20, 20, 12), (10, 18, 10), (10, 10, 18), (20, 12, 20), (24, 24, 24), (12, 20, 20)]
     assert [places[number] for number in children[6]] == stands
+    # in docs/VOLUMES.md: the bent cube times 0.123457, and middles that are rounded to six digits behind the point, all in millionths
+    corners = tuple(123457 * v for corner in bent for v in corner)
+    middles = [round(v / 8) for v in refined_mesh(corners, cell)[0]]
+    rounded = [volume216(tuple(middles[3 * number + axis] for number in child for axis in range(3))) for child in children]
+    assert (volume216(corners), sum(rounded)) == (4470885982866583368, 4470874460205328224)
     folded = held([cube[6], *cube[1:6], cube[0], cube[7]], cell)[0]
     assert folded == (-864, -442368, [-96768, *[-41472] * 5, -96768, -41472])
     assert held(box(2, 2, 0), cell)[0] == (0, 0, [0] * 8)

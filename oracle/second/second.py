@@ -30,7 +30,7 @@ BOUNDARY = {
     "descendant": meshes.boundary_descendant,
     "hxm_read": meshes.boundary_files,
     "hxm_write": meshes.boundary_writes,
-    "volume_report": volumes.boundary_with_pairs,
+    "volume_report": volumes.boundary_reports,
 }
 RANDOM = {
     "check": cells.random_check,
@@ -40,10 +40,10 @@ RANDOM = {
     "descendant": meshes.random_descendant,
     "hxm_read": meshes.random_files,
     "hxm_write": meshes.random_writes,
-    "volume_report": volumes.random_with_pairs,
+    "volume_report": volumes.random_reports,
 }
-# What the sample is drawn from where that is not all of these: from more cases another one would be drawn, and the stored one is to stay.
-SAMPLED = {"volume_report": (volumes.boundary_reports, volumes.random_reports)}
+# A random pair for so many cases of the report.
+PAIR_FOR = 20
 
 SAMPLE_SEED = "sample 1"
 # How many cases of a function a sample takes for each tag and number, and in all; how many are looked through.
@@ -59,13 +59,19 @@ SAMPLE = {
 }
 
 
-def cases(name, count, seed, sources=None):
+def cases(name, count, seed):
     """All boundary cases, then random ones until there are `count`."""
-    at_boundaries, at_random = sources or (BOUNDARY[name], RANDOM[name])
     rng = random.Random(f"{seed} {name}")
-    boundary = list(at_boundaries())
+    boundary = list(BOUNDARY[name]())
     yield from boundary
-    yield from itertools.islice(at_random(rng), max(count - len(boundary), 0))
+    yield from itertools.islice(RANDOM[name](rng), max(count - len(boundary), 0))
+
+
+def pairs(name, count, seed):
+    """Behind the report's cases its pairs, a mesh and its children, which are no cases of a sample."""
+    if name == "volume_report":
+        yield from volumes.boundary_pairs()
+        yield from itertools.islice(volumes.random_pairs(random.Random(f"{seed} pairs")), 2 * (count // PAIR_FOR))
 
 
 def answered(case, held):
@@ -98,7 +104,7 @@ def stream(names, count, seed, out):
     written = 0
     for name in names:
         before = None
-        for case in cases(name, count, seed):
+        for case in itertools.chain(cases(name, count, seed), pairs(name, count, seed)):
             function, tag, arguments = case
             answer = answered(case, held)
             if tag == "children":  # behind their parents
@@ -128,7 +134,7 @@ def sample_of(name):
     each, most, count = SAMPLE[name]
     rng = random.Random(f"{SAMPLE_SEED} {name}")
     kinds = {}
-    for position, case in enumerate(cases(name, count, SAMPLE_SEED, SAMPLED.get(name))):
+    for position, case in enumerate(cases(name, count, SAMPLE_SEED)):
         function, tag, arguments = case
         answer = answered(case, Counter())
         words = records.sample_words(function, arguments, answer)

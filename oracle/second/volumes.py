@@ -452,15 +452,3 @@ def random_pairs(rng):
         _, coordinates, cells = random_solid(rng, rng.choice((1, 2, 4, 8, MOST_PARENTS)), COARSE)
         if len(coordinates) // 3 + 19 * len(cells) <= MOST_NODES and not twisted(cells):
             yield from pair(coordinates, cells)
-
-
-def boundary_with_pairs():
-    yield from boundary_reports()
-    yield from boundary_pairs()
-
-
-def random_with_pairs(rng):
-    alone, pairs = random_reports(rng), random_pairs(rng)
-    while True:
-        yield from itertools.islice(alone, 6)
-        yield from itertools.islice(pairs, 2)

@@ -7,7 +7,7 @@ use std::array::from_fn;
 use std::collections::{BTreeMap, BTreeSet};
 use std::sync::LazyLock;
 
-use isnemgul::hex::SIGNS;
+use isnemgul::hex::{self, SIGNS};
 use isnemgul::{Point, Refusal, mesh};
 
 /// Where a node stands on the grid.
@@ -402,6 +402,22 @@ fn a_bent_cube() {
         [12, 20, 20],
     ];
     assert_eq!(at, stands);
+}
+
+/// The same at a tenth of its size, where no node is on the grid: the rounded volumes of the children
+/// do not add up to the cell's.
+#[test]
+fn a_rounded_sum_moves() {
+    let mut bent = cube().map(|node| node.map(|x| x as f64 / 10.));
+    bent[6] = [0.3; 3];
+    let root = 1. / 3f64.sqrt();
+    let volume = |corners: &[Point; 8]| hex::volume(corners, &[-root, 1., root, 1.]).unwrap();
+    let child = |i: usize| {
+        let middle = |k: usize, axis: usize| BETWEEN[8 * i + k].map(|corner| bent[corner][axis]);
+        from_fn(|k| from_fn(|axis| middle(k, axis).iter().sum::<f64>() / 8.))
+    };
+    let together = (0..8).fold(0., |sum, i| sum + volume(&child(i)));
+    assert_eq!((volume(&bent), together), (0.010999999999999998, 0.010999999999999996));
 }
 
 /// Corners 0 and 6 have changed places.
