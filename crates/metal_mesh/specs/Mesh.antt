@@ -17,7 +17,7 @@ use Rattle.volume_report.specs.Report.{Report, gridNumbers, reportOf}
 use Rattle.numbering.specs.Refinement.{Thing, edge, face, centre, cellCount, thingsOf, given, number}
 use Rattle.refine.specs.Refine.{refined, allChildren}
 
--- the node that is corner k of cell c: a cell is read here and nowhere else
+-- the node that is corner k of cell c: this room reads a cell here and nowhere else
 abbrev pub cornerNode : List ℕ → ℕ → ℕ → ℕ
 cornerNode cells c k = node 8 cells c k
 
@@ -67,7 +67,7 @@ abbrev pub coordinate : List ℤ → ℕ → ℕ → ℤ
 coordinate numbers i k = getD numbers (nodeWords * k + i) (pos 0)
 
 -- Of a mesh file: what its cells hold is the total of its report, and the children hold 512 times that total.
-pub record ReportKeepsTheMetal (s : List ℕ) (m : Mesh) (numbers : List ℤ) (r : Report) : Type 0 where
+pub record ReportKeepsTheMetal (m : Mesh) (numbers : List ℤ) (r : Report) : Type 0 where
   pub cells : cellsHold (coordinate numbers 0) (coordinate numbers 1) (coordinate numbers 2) (m .corners) ≡ r .total
   pub children : (room free : ℕ) → refined (m .nodes) (m .corners) room ≡ answered free
       → childrenHold (coordinate numbers 0) (coordinate numbers 1) (coordinate numbers 2) (m .nodes) (m .corners) ≡ pos 512 *ℤ r .total
@@ -75,4 +75,4 @@ pub record ReportKeepsTheMetal (s : List ℕ) (m : Mesh) (numbers : List ℤ) (r
 abbrev pub ReportsKeepTheMetal : Type 0
 ReportsKeepTheMetal =
     (s : List ℕ) (m : Mesh) (numbers : List ℤ) (r : Report) → meshOf s ≡ answered m → gridNumbers (m .coords) ≡ answered numbers → reportOf s ≡ answered r
-    → ReportKeepsTheMetal s m numbers r
+    → ReportKeepsTheMetal m numbers r
