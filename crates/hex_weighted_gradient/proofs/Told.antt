@@ -8,9 +8,8 @@ use mathlib.Core.List.{List}
 use lib.Dec.{leb}
 use lib.Ieee.{Float, nan}
 use lib.ListN.{length}
-use lib.Seq.{ext-getD}
 use Rattle.numbers.specs.Rule.{tabulate}
-use Rattle.numbers.proofs.Tabulate.{tabulate-at}
+use Rattle.numbers.proofs.Tabulate.{tabulate-back}
 use Rattle.answer.specs.Answer.{Answer, answered, refused, Leaves}
 use Rattle.binary64.specs.Binary64.{_!_}
 use Rattle.cell.specs.Points.{pointCount, notWhole, notOneTo16}
@@ -35,7 +34,7 @@ told-loses-nothing x y same = sym (made-of-told x) ∙ ap made same ∙ made-of-
 
 -- a list of 24 is what stands at its 24 places
 all-read : (l : List Float) → length l ≡ 24 → tabulate 24 (λ (k : ℕ). l ! k) ≡ l
-all-read l long = ext-getD nan (tabulate 24 (λ (k : ℕ). l ! k)) l (sym long) (tabulate-at 24 (λ (k : ℕ). l ! k) nan)
+all-read l long = tabulate-back l 24 nan long
 
 -- three refusals, each with its number, before the values
 abbrev ladder : Bool → Bool → Bool → List Float × Float → Answer (List Float × Float)

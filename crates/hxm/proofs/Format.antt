@@ -18,7 +18,7 @@ use Rattle.faults.specs.Faults.{node, Sound}
 use Rattle.faults.proofs.Faults.{faultless-is-sound}
 use Rattle.hxm.specs.Format.{nodeBytes, cellBytes, Mesh, mark, headOf, nodesPart, cellsPart, fileOf, headLength, version, nodeCount, cellCount}
 use Rattle.hxm.specs.Format.{cellsFrom, marked, faultOf, meshAt, Good, FilesOfMeshes}
-use Rattle.hxm.proofs.Ladder.{Passed, accepted-passed, passed-accepted}
+use Rattle.hxm.proofs.Ladder.{Passed, accepted-passed, corners-long, passed-accepted}
 
 -- from bytes to a mesh
 
@@ -68,8 +68,7 @@ module _ (s : List ℕ) (are : Below 256 s) (p : Passed s) where
   is-good : Good (meshAt s)
   unfolding meshAt faultOf
   is-good =
-      let corner : ℕ → ℕ = λ i. numberAt s 4 (cellsFrom s + 4 * i) in
-      let count : length (meshAt s .corners) ≡ 8 * cellCount s = length-tabulate (8 * cellCount s) corner in
+      let count = corners-long s in
       record {
         nodesFew = p .nodesFew;
         cellsFew = p .cellsFew;

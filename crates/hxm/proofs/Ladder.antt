@@ -1,7 +1,7 @@
 -- The tests that an accepted file has passed, and what reading it leaves. Assumes nothing.
 use Prim.Native.Nat.{ℕ, _+_, _*_, _≤_, _<_}
 use native.Mathlib.Omega.{arith}
-use mathlib.Core.Path.{_≡_, refl, _∙_, ap}
+use mathlib.Core.Path.{_≡_, refl, _∙_, ap, subst}
 use mathlib.Core.Bool.{Bool, true, false, not, _||_, cond}
 use mathlib.Core.List.{List, [], _∷_, _++_}
 use lib.Dec.{eqb, ltb}
@@ -59,6 +59,16 @@ accepted-passed s m e =
       },
       cc (s6 .1),
     )
+
+-- the numbers of all cells
+pub corners-long : (s : List ℕ) → length (meshAt s .corners) ≡ 8 * cellCount s
+unfolding meshAt
+corners-long s = length-tabulate (8 * cellCount s) (λ (i : ℕ). numberAt s 4 (cellsFrom s + 4 * i))
+
+-- so that a list of an accepted mesh has its cells
+pub accepted-whole : (s : List ℕ) (m : Mesh) → meshOf s ≡ answered m → length (m .corners) ≡ 8 * m .cells
+unfolding meshAt
+accepted-whole s m e = subst (λ (m : Mesh). length (m .corners) ≡ 8 * m .cells) (accepted-passed s m e .1) (corners-long s)
 
 pub passed-accepted : (s : List ℕ) → Passed s → meshOf s ≡ answered (meshAt s)
 unfolding meshOf

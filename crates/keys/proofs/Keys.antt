@@ -10,11 +10,9 @@ use borrow.Author.Tests.{eq-eqb, eqb-true, eqb-false, ltb-true, ltb-false}
 use lib.Dec.{T, eqb, ltb, T-not}
 use mathlib.Core.Logic.{inl, inr, ⊎-elim}
 use lib.ListN.{length, getD}
-use lib.Seq.{ext-getD}
-use Rattle.numbers.specs.Rule.{tabulate}
 use Rattle.numbers.proofs.Cases.{cases, never, passes, is-false, fails}
 use Rattle.numbers.proofs.Every.{Every}
-use Rattle.numbers.proofs.Tabulate.{tabulate-at}
+use Rattle.numbers.proofs.Tabulate.{tabulate-back}
 use Rattle.numbers.proofs.Tests.{first, second}
 use Rattle.numbers.specs.FirstMet.{among, apart}
 use Rattle.keys.specs.Keys.{insert, rising, packed, key, opposite, Nodes, PairsInOrder, KeysTell, RingsTell}
@@ -289,7 +287,7 @@ four-key a b c d = ap packed (sym (exchanged-rising a b c d))
 
 -- a list of four is its four numbers
 pub four-nodes : (ps : List ℕ) → length ps ≡ 4 → getD ps 0 0 ∷ getD ps 1 0 ∷ getD ps 2 0 ∷ getD ps 3 0 ∷ [] ≡ ps
-four-nodes ps long = ext-getD 0 (tabulate 4 (λ (j : ℕ). getD ps j 0)) ps (sym long) (λ j below. tabulate-at 4 (λ (j : ℕ). getD ps j 0) 0 j below)
+four-nodes ps long = tabulate-back ps 4 0 long
 
 -- ---- rings
 -- where the smallest node of a ring stands, and that across from it

@@ -3,14 +3,14 @@ use Prim.Native.Nat.{ℕ, _+_, _*_, _≤_}
 use native.Mathlib.Nat.{zero-add}
 use native.Mathlib.Numerals.{add-one}
 use native.Mathlib.Omega.{arith}
-use mathlib.Core.Path.{_≡_, refl, sym, ap, _∙_}
+use mathlib.Core.Path.{_≡_, refl, ap, _∙_}
 use mathlib.Core.List.{List, _++_, append-assoc}
 use borrow.Rule.Slice.PartMut.{putMid}
 use lib.ListN.{length, getD, drop}
-use lib.Seq.{take-at, drop-at, drop-drop, ext-getD}
+use lib.Seq.{take-at, drop-at, drop-drop}
 use Rattle.numbers.specs.Rule.{tabulate}
-use Rattle.numbers.proofs.Stored.{length-tabulate}
-use Rattle.numbers.proofs.Tabulate.{tabulate-at}
+use Rattle.numbers.proofs.Prefix.{tabulate-where}
+use Rattle.numbers.proofs.Tabulate.{tabulate-back}
 use Rattle.hex_children.specs.Children.{children}
 use Rattle.numbering.specs.Refinement.{cellCount, chain}
 use Rattle.numbering.proofs.Steps.{chain-length}
@@ -33,9 +33,7 @@ all-whole cells edges faces centers room fit = omega arith
 -- a list copied whole
 pub copied : (l : List ℕ) (m : ℕ) → length l ≡ m → tabulate m (λ (k : ℕ). getD l (0 + k) 0) ≡ l
 copied l m long =
-    let f : ℕ → ℕ = λ k. getD l (0 + k) 0 in
-    ext-getD 0 (tabulate m f) l (length-tabulate m f ∙ sym long)
-    (λ j below. tabulate-at m f 0 j (rw (length-tabulate m f) at below) ∙ ap (λ (k : ℕ). getD l k 0) (zero-add j))
+    tabulate-where m (λ (k : ℕ). getD l (0 + k) 0) (λ (k : ℕ). getD l k 0) (λ k below. ap (λ (j : ℕ). getD l j 0) (zero-add k)) ∙ tabulate-back l m 0 long
 
 -- children of the same numbers
 pub same-children : {corner corner′ edge edge′ quad quad′ : List ℕ} {center : ℕ} → corner ≡ corner′ → edge ≡ edge′ → quad ≡ quad′ →

@@ -47,10 +47,10 @@ pub record Got (x t : Thing) : Type 0 where
 pub got : (n : ℕ) (cells : List ℕ) (d x : Thing) → among same (things cells) x ≡ true → Got x (getD (given cells) (number n cells x - n) d)
 got n cells d x met =
     let p = placeOf same (given cells) x in
-    let there = is-given sameRing same-rings cells x met in
+    let within = place-below same (given cells) x (is-given sameRing same-rings cells x met) in
     let place : n + p - n ≡ p = omega arith in
     subst⁻¹ (λ (k : ℕ). Got x (getD (given cells) k d)) place
     (record {
-      whole = every-member Whole (given cells) d (given-whole cells) p (place-below same (given cells) x there);
-      alike = place-same same (given cells) x d there;
+      whole = every-member Whole (given cells) d (given-whole cells) p within;
+      alike = place-same same (given cells) x d within;
     })

@@ -39,10 +39,10 @@ module _ {A : Type 0} (same : A → A → Bool) where
       (λ t. rw t (omega arith))
       (λ f. let below = place-below xs x (rw f at h) in rw f (omega arith))
 
-  -- at its place stands what is the same
-  pub place-same : (xs : List A) (x d : A) → among same xs x ≡ true → same (getD xs (placeOf same xs x) d) x ≡ true
-  place-same [] x d h = never (sym h)
-  place-same (y ∷ xs) x d h = cases (same y x) (λ t. rw t t) (λ f. rw f (place-same xs x d (rw f at h)))
+  -- at a thing's place stands what is the same
+  pub place-same : (xs : List A) (x d : A) → placeOf same xs x < length xs → same (getD xs (placeOf same xs x) d) x ≡ true
+  place-same [] x d within = absurd (not-suc-le-zero within)
+  place-same (y ∷ xs) x d within = cases (same y x) (λ t. rw t t) (λ f. rw f (place-same xs x d (le-of-suc-le-suc (rw f at within))))
 
   -- what stands in a list is among it
   pub member-among : ((x : A) → same x x ≡ true) → (xs : List A) (d : A) (k : ℕ) → k < length xs → among same xs (getD xs k d) ≡ true
@@ -77,9 +77,7 @@ module _ {A : Type 0} (same : A → A → Bool) where
 
 -- at the place of a number stands the number
 pub place-holds : (xs : List ℕ) (x : ℕ) → placeOf eqb xs x < length xs → getD xs (placeOf eqb xs x) 0 ≡ x
-place-holds [] x within = absurd (omega arith)
-place-holds (y ∷ ys) x within =
-    cases (eqb y x) (λ t. rw t (eqb-true y x t)) (λ f. rw f (place-holds ys x (le-of-suc-le-suc (rw f at within))))
+place-holds xs x within = eqb-true (getD xs (placeOf eqb xs x) 0) x (place-same eqb xs x 0 within)
 
 module _ {A : Type 0} (same : A → A → Bool) (s : Sameness same) where
   -- things that are the same are the same as the same things

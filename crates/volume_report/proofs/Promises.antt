@@ -36,6 +36,11 @@ told-loses-nothing (Volumes t c f) (Refused k) h = cc
 told-loses-nothing (Refused k) (Volumes u d g) h = cc
 told-loses-nothing (Refused k) (Refused l) h = cc
 
+pub report-is : (s : List ℕ) (m : Mesh) (numbers : List ℤ) (r : Report) → meshOf s ≡ answered m → gridNumbers (m .coords) ≡ answered numbers
+    → reportOf s ≡ answered r → r ≡ meshReport numbers (m .corners) (m .cells)
+unfolding reportOf
+report-is s m numbers r file grid e = sym (answered-same (rw (file, grid) at e))
+
 -- what is behind a report: the mesh, and the numbers of its nodes
 record Behind (s : List ℕ) (r : Report) : Type 0 where
   pub mesh : Mesh
@@ -49,12 +54,7 @@ unfolding reportOf
 behind s r e =
     let file = then-answered (meshOf s) _ r e in
     let grid = then-answered (gridNumbers (file .value .coords)) _ r (file .next) in
-    record { mesh = file .value; numbers = grid .value; file = file .is; on-grid = grid .is; is = sym (answered-same (grid .next)) }
-
-pub report-is : (s : List ℕ) (m : Mesh) (numbers : List ℤ) (r : Report) → meshOf s ≡ answered m → gridNumbers (m .coords) ≡ answered numbers
-    → reportOf s ≡ answered r → r ≡ meshReport numbers (m .corners) (m .cells)
-unfolding reportOf
-report-is s m numbers r file grid e = sym (answered-same (rw (file, grid) at e))
+    record { mesh = file .value; numbers = grid .value; file = file .is; on-grid = grid .is; is = report-is s (file .value) (grid .value) r (file .is) (grid .is) e }
 
 pub total-is-the-sum : TotalIsTheSum
 total-is-the-sum =

@@ -1,5 +1,5 @@
--- One turn of the sum of volumes. Assumes nothing.
-use Prim.Native.Nat.{ℕ, _+_, _*_, _≤_, _<_}
+-- A total as a sum over the index, and one turn of the sum of volumes. Assumes nothing.
+use Prim.Native.Nat.{ℕ, zero, suc, _+_, _*_, _≤_, _<_}
 use native.Mathlib.Numerals.{add-one}
 use native.Mathlib.Omega.{arith}
 use mathlib.Core.Path.{_≡_, sym, _∙_, ap, subst, subst⁻¹}
@@ -10,10 +10,19 @@ use lib.Seq.{drop-cons, drop-length}
 use mir.Syntax.{w64}
 use mir.Val.{SFits}
 use mir.Facts.{toZ-ofZ}
+use Rattle.numbers.specs.Rule.{tabulate, foldTo}
 use Rattle.integers.specs.Sizes.{Within, EachWithin}
+use Rattle.integers.specs.Sums.{sumTo}
 use Rattle.integers.proofs.Sizes.{within-add, within-fits, within-back, within-more, back}
 use Rattle.volume_report.specs.Sized.{mostVolume}
 use Rattle.volume_report.specs.Report.{total}
+
+total-from : (a : ℤ) (n : ℕ) (f : ℕ → ℤ) → foldTo _+ℤ_ a n f ≡ a +ℤ total (tabulate n f)
+total-from a zero f = sym (+ℤ-idr a)
+total-from a (suc n) f = total-from (a +ℤ f 0) n (λ (k : ℕ). f (suc k)) ∙ +ℤ-assoc a (f 0) (total (tabulate n (λ (k : ℕ). f (suc k))))
+
+pub total-is : (n : ℕ) (f : ℕ → ℤ) → sumTo n f ≡ total (tabulate n f)
+total-is n f = total-from (pos 0) n f ∙ +ℤ-idl (total (tabulate n f))
 
 -- what the loop holds: s is the sum of the first c volumes
 pub record Summed (volumes : List ℤ) (c : ℕ) (s : ℤ) : Type 0 where
