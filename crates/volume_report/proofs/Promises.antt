@@ -54,7 +54,8 @@ unfolding reportOf
 behind s r e =
     let file = then-answered (meshOf s) _ r e in
     let grid = then-answered (gridNumbers (file .value .coords)) _ r (file .next) in
-    record { mesh = file .value; numbers = grid .value; file = file .is; on-grid = grid .is; is = report-is s (file .value) (grid .value) r (file .is) (grid .is) e }
+    let all = report-is s (file .value) (grid .value) r (file .is) (grid .is) e in
+    record { mesh = file .value; numbers = grid .value; file = file .is; on-grid = grid .is; is = all }
 
 pub total-is-the-sum : TotalIsTheSum
 total-is-the-sum =
