@@ -2,6 +2,5 @@ pub mod Edges
 pub mod Image
 pub mod Middles
 pub mod Newton
-pub mod Nan
 pub mod Points
 pub mod Shape

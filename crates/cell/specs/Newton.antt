@@ -7,9 +7,9 @@ use Rattle.mat3_col_major.specs.Mat3.{transposed, product}
 use Rattle.mat3_inverse.specs.Inverse.{inverse}
 use Rattle.cell.specs.declared.Point.{Point}
 use Rattle.cell.specs.declared.Step.{Step}
-use Rattle.cell.specs.declared.Step.TheVariants as Step
+use Rattle.cell.specs.declared.Step.TheVariants.{Next, Stuck}
 use Rattle.cell.specs.declared.Located.{Located}
-use Rattle.cell.specs.declared.Located.TheVariants as Located
+use Rattle.cell.specs.declared.Located.TheVariants.{Inside, Flat, Outside}
 
 abbrev pub coords : Point → List Float
 coords q = q.x ∷ q.y ∷ q.z ∷ []
@@ -30,22 +30,20 @@ step_from q image jacobian = step_by q image (inverse (transposed jacobian))
 abbrev pub verdict : (List Float → Bool) → List Float → Answer (List Float)
 verdict inside q = cond (inside q) (answered q) (refused 2)
 
--- "takes exactly 20 steps unless a determinant is zero", which is refusal 1, or NaN, which is 16 (document 02, 6/12), and then the inside test
+-- "takes exactly 20 steps unless a determinant is zero", which is refusal 1, and then the inside test
 abbrev pub locate : (List Float → Answer (List Float)) → List Float → (List Float → Bool) → Answer (List Float)
 locate step start inside = and_then (after step start 20) (verdict inside)
 
 -- the number and the values of each case of a step
 abbrev pub step_told : Step → Answer (List Float)
-step_told (Step.Next q) = answered (coords q)
-step_told Step.Stuck = refused 1
-step_told Step.NotANumber = refused 16
+step_told (Next q) = answered (coords q)
+step_told Stuck = refused 1
 
--- the number and the values of each case: "inside with three coordinates, flat, or outside", and 6/12's "16, NaN determinant, in the place of 1 at that step"
+-- the number and the values of each case: "inside with three coordinates, flat, or outside"
 abbrev pub told : Located → Answer (List Float)
-told (Located.Inside r s t) = answered (r ∷ s ∷ t ∷ [])
-told Located.Flat = refused 1
-told Located.NotANumber = refused 16
-told Located.Outside = refused 2
+told (Inside r s t) = answered (r ∷ s ∷ t ∷ [])
+told Flat = refused 1
+told Outside = refused 2
 
 -- So the contracts leave one possible answer.
 abbrev pub ToldLosesNothing : Type 0

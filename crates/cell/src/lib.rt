@@ -17,12 +17,11 @@ pub struct Point {
     pub z: f64,
 }
 
-// The next place, or none because the determinant is zero or NaN.
+// The next place, or none because the determinant is zero.
 #[derive(Drop)]
 pub enum Step {
     Next(Point),
     Stuck,
-    NotANumber,
 }
 
 // Where the origin lies in a cell.
@@ -30,7 +29,6 @@ pub enum Step {
 pub enum Located {
     Inside(f64, f64, f64),
     Flat,
-    NotANumber,
     Outside,
 }
 
@@ -144,6 +142,5 @@ pub fn newton_step(at: Point, image: [f64; 3], inverse: Inverse) -> Step
             mat3_col_major::mult_vec([a, b, c, d, e, f, g, h, i], image),
         )),
         Inverse::ZeroDeterminant => Step::Stuck,
-        Inverse::NanDeterminant => Step::NotANumber,
     }
 }

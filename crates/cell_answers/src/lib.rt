@@ -16,7 +16,6 @@ pub fn put_inverse(found: Inverse, out: &mut [f64; 9]) -> u32
             0
         }
         Inverse::ZeroDeterminant => 1,
-        Inverse::NanDeterminant => 16,
     }
 }
 
@@ -29,7 +28,6 @@ pub fn put_located(found: Located, at: &mut [f64; 3]) -> u32
             0
         }
         Located::Flat => 1,
-        Located::NotANumber => 16,
         Located::Outside => 2,
     }
 }

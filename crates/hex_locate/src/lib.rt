@@ -51,9 +51,6 @@ pub fn newton(p: &[f64; 24]) -> Located
             Step::Stuck => {
                 return Located::Flat;
             }
-            Step::NotANumber => {
-                return Located::NotANumber;
-            }
         }
     }
     answer(at)

@@ -1,7 +1,5 @@
 -- The inverse of a 3 by 3 matrix, by its cofactors: document 01, "Four matrix functions of 002". Definitions and claims only.
-use Rattle.std.specs.Prelude.{ℕ, ◌+◌, ◌≡◌, cond, List, [], ◌∷◌, T, Float, ℤ, ◌*ℤ◌}
-use Rattle.std.specs.Float.{nan}
-use Rattle.std.specs.Float.Ieee.{is_nan}
+use Rattle.std.specs.Prelude.{ℕ, ◌+◌, ◌≡◌, cond, List, [], ◌∷◌, Float, ℤ, ◌*ℤ◌}
 use Rattle.numbers.specs.Rule.{tabulate}
 use Rattle.numbers.specs.Arithmetic.{Arithmetic}
 use Rattle.integers.specs.Integers.{integers}
@@ -9,7 +7,7 @@ use Rattle.binary64.specs.Binary64.{◌⊘◌, f1, is_zero, floats}
 use Rattle.answer.specs.Answer.{Answer, answered, refused, LosesNothing}
 use Rattle.mat3_col_major.specs.Mat3.{matrix, entry, product_in, det_in, det, diagonal}
 use Rattle.mat3_inverse.specs.declared.Inverse.{Inverse}
-use Rattle.mat3_inverse.specs.declared.Inverse.TheVariants.{Of, ZeroDeterminant, NanDeterminant}
+use Rattle.mat3_inverse.specs.declared.Inverse.TheVariants.{Of, ZeroDeterminant}
 
 -- The formulas, one text for every arithmetic: in floats it is what the code computes, in whole numbers what is claimed below.
 module _ {A : Type 0} (a : Arithmetic A) where
@@ -40,24 +38,14 @@ abbrev pub CofactorsInvert : Type 0
 CofactorsInvert =
     (s : ℤ) (m : List ℤ) → times integers m (scaled_cofactors_in integers s m) ≡ diagonal integers (s *ℤ det_in integers m)
 
--- what the Rust does: "The last gives none when the determinant is plus or minus zero, never for NaN or infinity."
-unfoldable pub rust_inverse : List Float → Answer (List Float)
-rust_inverse m = cond (is_zero (det m)) (refused 1) (answered (scaled_cofactors (f1 ⊘ det m) m))
-
--- document 02, 6/12: "The matrix inverse is to name a NaN determinant as a third answer, beside zero and an inverse .. An infinite determinant continues as
--- today". A zero is no NaN, so that 1 and 16 have no order between them.
+-- "The last gives none when the determinant is plus or minus zero, never for NaN or infinity."
 unfoldable pub inverse : List Float → Answer (List Float)
-inverse m = cond (is_nan (det m)) (refused 16) (rust_inverse m)
-
--- "for the bare inverse the third answer stands for the Rust's nine NaNs"
-abbrev pub NanStandsForNineNans : Type 0
-NanStandsForNineNans = (m : List Float) → T (is_nan (det m)) → rust_inverse m ≡ answered (matrix (λ (i j : ℕ). nan))
+inverse m = cond (is_zero (det m)) (refused 1) (answered (scaled_cofactors (f1 ⊘ det m) m))
 
 -- the number and the values of each answer of the inverse
 abbrev pub told : Inverse → Answer (List Float)
 told (Of a b c d e f g h i) = answered (a ∷ b ∷ c ∷ d ∷ e ∷ f ∷ g ∷ h ∷ i ∷ [])
 told ZeroDeterminant = refused 1
-told NanDeterminant = refused 16
 
 -- So the contract leaves one possible answer.
 abbrev pub ToldLosesNothing : Type 0

@@ -3,12 +3,11 @@ ghost use Rattle.std.specs.Prelude.{◌≡◌, ◌<◌};
 ghost use Rattle.binary64.specs.Binary64.{◌⊖◌, ◌⊗◌, ◌!◌};
 ghost use Rattle.mat3_inverse.specs.Inverse.{scaled_cofactors, inverse, told};
 
-// Nine floats; or the Rust's None, because the determinant is plus or minus zero; or a NaN determinant, where the Rust has nine NaNs.
+// The Rust's Option: nine floats, or none because the determinant is plus or minus zero.
 #[derive(Drop)]
 pub enum Inverse {
     Of(f64, f64, f64, f64, f64, f64, f64, f64, f64),
     ZeroDeterminant,
-    NanDeterminant,
 }
 
 pub fn try_inverse(b: [f64; 9]) -> Inverse
@@ -17,9 +16,6 @@ pub fn try_inverse(b: [f64; 9]) -> Inverse
     let det = mat3_col_major::determinant(b);
     if det == 0.0 {
         return Inverse::ZeroDeterminant;
-    }
-    if det != det {
-        return Inverse::NanDeterminant;
     }
     let inv_det = 1.0 / det;
     let m = scaled_cofactors(inv_det, b);

@@ -1,10 +1,9 @@
--- Where the origin lies in a prism of 18 floats. Definitions and the claim only.
+-- Where the origin lies in a prism of 18 floats. Definitions only.
 use Rattle.std.specs.Prelude.{Bool, ◌&&◌, List, [], ◌∷◌, Float}
 use Rattle.std.specs.Float.Ieee.{le}
 use Rattle.binary64.specs.Binary64.{◌⊕◌, ◌⊘◌, ◌!◌, f0, f1}
 use Rattle.answer.specs.Answer.{Answer}
 use Rattle.cell.specs.Newton.{step_from, locate}
-use Rattle.cell.specs.Nan.{rust_step_from, NanEndsInNone, OnlyWhereNan}
 use Rattle.prism_image.specs.Image.{image_at, jacobian_at}
 
 -- one Newton step from the place q
@@ -27,11 +26,3 @@ inside q = le f0 (q ! 0) && le f0 (q ! 1) && le (q ! 0 ⊕ q ! 1) f1 && le f0 (q
 
 unfoldable pub located : List Float → Answer (List Float)
 located p = locate (step p) start inside
-
--- the same twenty steps and inside test by the Rust's inverse, which goes on with a NaN determinant
-abbrev pub rust_located : List Float → Answer (List Float)
-rust_located p = locate (λ (q : List Float). rust_step_from q (image_at p q) (jacobian_at p q)) start inside
-
--- Of every cell: 16 is answered exactly where a step meets a NaN determinant, and there the Rust ends in None.
-abbrev pub NanInPrisms : Type 0
-NanInPrisms = (p : List Float) → NanEndsInNone (located p) (rust_located p) × OnlyWhereNan (step p) start (jacobian_at p) (located p)

@@ -62,9 +62,6 @@ pub fn parametric_coord_for_origin(p: [f64; 18]) -> Located
             Step::Stuck => {
                 return Located::Flat;
             }
-            Step::NotANumber => {
-                return Located::NotANumber;
-            }
         }
     }
     answer(at)

@@ -28,14 +28,14 @@ pub zero_accepts : (p q : List Float) (t : Float) → number_of (checked p q t) 
 zero_accepts p q t zero = (zero_tells_an_answer (Unit {0}) of_check (checked p q t) tt (checked_refuses p q t) zero).1
 
 abbrev of_locator : List ℕ
-of_locator = 3 ∷ 4 ∷ 1 ∷ 16 ∷ 2 ∷ 6 ∷ []
+of_locator = 3 ∷ 4 ∷ 1 ∷ 2 ∷ 6 ∷ []
 
 pub located_checked_refuses : (p : List Float) (t : Float) → RefusesBy of_locator (located_checked p t)
 unfolding located_checked
 located_checked_refuses p t =
     refuses_unless of_locator (not (good_corners p)) 3 _ tt
     (refuses_unless of_locator (not (good_tolerance t)) 4 _ tt
-    (refuses_then of_locator (located p) (kept_if_near p t) (located_refuses of_locator p tt tt tt)
+    (refuses_then of_locator (located p) (kept_if_near p t) (located_refuses of_locator p tt tt)
     (λ q. refuses_unless of_locator (not (near p q t)) 6 (answered q) tt tt)))
 
 -- so a verdict of which 0 is told is an acceptance

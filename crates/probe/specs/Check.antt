@@ -53,7 +53,7 @@ checked p q t =
 abbrev pub kept_if_near : List Float → Float → List Float → Answer (List Float)
 kept_if_near p t q = cond (not (near p q t)) (refused 6) (answered q)
 
--- "Checked locator: 3, 4, then 1 or 2, then 6", with 6/12's 16 in the place of 1. "The checked locator runs Newton, then this check", and answers Newton's coordinate.
+-- "Checked locator: 3, 4, then 1 or 2, then 6." "The checked locator runs Newton, then this check", and answers Newton's coordinate.
 unfoldable pub located_checked : List Float → Float → Answer (List Float)
 located_checked p t =
     cond (not (good_corners p)) (refused 3)

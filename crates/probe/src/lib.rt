@@ -123,12 +123,11 @@ fn kept(p: [f64; 24], found: Located, t: f64) -> Checked
             Checked::Inside(a, b, c)
         }
         Located::Flat => Checked::Refused(1),
-        Located::NotANumber => Checked::Refused(16),
         Located::Outside => Checked::Refused(2),
     }
 }
 
-// The checked locator's refusals in their order: 3, 4, then 1 or 16 at each step, then 2, then 6.
+// The checked locator's refusals in their order: 3, 4, then 1 or 2, then 6.
 fn locate(corners: [f64; 24], tolerance: f64) -> Checked
     ensures { place_told result ≡ located_checked corners tolerance }
 {

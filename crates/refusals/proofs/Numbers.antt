@@ -21,7 +21,7 @@ use Rattle.hxm_write.specs.Writes as Write
 use Rattle.grid_number.proofs.Small.{grid_refuses}
 use Rattle.volume_report.specs.Report.{grid_numbers, room_for, report_of, report_into}
 use Rattle.refine.specs.Refine.{refined}
-use Rattle.refusals.specs.Numbers.{locator_numbers, file_numbers, write_numbers, report_numbers, refine_numbers, RefusalsNumbered}
+use Rattle.refusals.specs.Numbers.{file_numbers, write_numbers, report_numbers, refine_numbers, RefusalsNumbered}
 
 -- ---- the first fault of some cells is 0, 9 or 10
 either : (P : ℕ → Type 0) (b : Bool) (x y : ℕ) → P x → P y → P (cond b x y)
@@ -43,10 +43,10 @@ unless_faulty ns nine ten rest n k cells c on =
     first_one_of (λ (f : ℕ). RefusesBy ns (cond (not (eqb f 0)) (refused f) rest)) on nine ten n k cells c
 
 -- ---- one ladder after another
-prism_located : (p : List Float) → RefusesBy locator_numbers (located p)
+prism_located : (p : List Float) → RefusesBy (1 ∷ 2 ∷ []) (located p)
 unfolding located step
 prism_located p =
-    locate_refuses locator_numbers (step p) start (λ q. step_refuses locator_numbers q (image_at p q) (jacobian_at p q) tt tt) inside tt
+    locate_refuses (1 ∷ 2 ∷ []) (step p) start (λ q. step_refuses (1 ∷ 2 ∷ []) q (image_at p q) (jacobian_at p q) tt) inside tt
 
 descended_refuses : (path : List ℕ) (k : ℕ) → RefusesBy (7 ∷ 9 ∷ []) (descended path k)
 unfolding descended
@@ -86,8 +86,8 @@ refined_refuses n cells room = search (refuses_unless, unless_faulty refine_numb
 pub refusals_numbered : RefusalsNumbered
 refusals_numbered =
     record {
-      of_inverse = λ m. inverse_refuses (1 ∷ 16 ∷ []) m tt tt;
-      of_hex_locator = λ p. located_refuses locator_numbers p tt tt tt;
+      of_inverse = λ m. inverse_refuses (1 ∷ []) m tt;
+      of_hex_locator = λ p. located_refuses (1 ∷ 2 ∷ []) p tt tt;
       of_prism_locator = prism_located;
       of_gradient = λ p points i j k. search refuses_unless;
       of_hex_volume = λ p points. search refuses_unless;

@@ -19,10 +19,6 @@ use Rattle.hxm_write.specs.Writes.{file_into}
 use Rattle.volume_report.specs.Report.{report_into}
 use Rattle.refine.specs.Refine.{refined}
 
--- at each step 1 or, document 02, 6/12, "16, NaN determinant, in the place of 1 at that step"; then 2
-abbrev pub locator_numbers : List ℕ
-locator_numbers = 1 ∷ 16 ∷ 2 ∷ []
-
 -- "File: 13 if under 13 bytes, 11, 12, 7, 13, then cell by cell 9, 10, last 8"
 abbrev pub file_numbers : List ℕ
 file_numbers = 13 ∷ 11 ∷ 12 ∷ 7 ∷ 9 ∷ 10 ∷ 8 ∷ []
@@ -41,16 +37,16 @@ refine_numbers = 7 ∷ 8 ∷ 9 ∷ 10 ∷ 14 ∷ []
 
 -- Every entry that can refuse does so by one of these numbers, whatever it is asked. Those that are not listed refuse nothing.
 pub record RefusalsNumbered : Type 0 where
-  pub of_inverse : (m : List Float) → RefusesBy (1 ∷ 16 ∷ []) (inverse m)
-  pub of_hex_locator : (p : List Float) → RefusesBy locator_numbers (Hex.located p)
-  pub of_prism_locator : (p : List Float) → RefusesBy locator_numbers (Prism.located p)
+  pub of_inverse : (m : List Float) → RefusesBy (1 ∷ []) (inverse m)
+  pub of_hex_locator : (p : List Float) → RefusesBy (1 ∷ 2 ∷ []) (Hex.located p)
+  pub of_prism_locator : (p : List Float) → RefusesBy (1 ∷ 2 ∷ []) (Prism.located p)
   pub of_gradient : (p points : List Float) (i j k : ℕ) → RefusesBy (8 ∷ 7 ∷ 9 ∷ []) (weighted_gradient p points i j k)
   pub of_hex_volume : (p points : List Float) → RefusesBy (8 ∷ 7 ∷ []) (HexVolume.volume p points)
   pub of_prism_volume : (p line triangle : List Float) → RefusesBy (8 ∷ 7 ∷ []) (PrismVolume.volume_answer p line triangle)
   pub of_mask : (index : ℕ) → RefusesBy (9 ∷ []) (iso_mask index)
   pub of_position : (center : List Float) (half_width : Float) (a b : ℕ) (v w : Float) → RefusesBy (9 ∷ []) (iso_position center half_width a b v w)
   pub of_check : (p q : List Float) (t : Float) → RefusesBy (3 ∷ 4 ∷ 5 ∷ 6 ∷ []) (checked p q t)
-  pub of_locator : (p : List Float) (t : Float) → RefusesBy (3 ∷ 4 ∷ 1 ∷ 16 ∷ 2 ∷ 6 ∷ []) (located_checked p t)
+  pub of_locator : (p : List Float) (t : Float) → RefusesBy (3 ∷ 4 ∷ 1 ∷ 2 ∷ 6 ∷ []) (located_checked p t)
   pub of_proposals : (corners : List Float) (list : List Proposal) (room : ℕ) → RefusesBy (7 ∷ 8 ∷ []) (zeros_in (judgements corners list room))
   pub of_descendant : (path : List ℕ) (k : ℕ) → RefusesBy (7 ∷ 9 ∷ []) (descended path k)
   pub of_file : (coords corners : ℕ) (s : List ℕ) → RefusesBy file_numbers (mesh_into coords corners s)

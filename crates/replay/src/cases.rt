@@ -55,7 +55,6 @@ fn mat3_try_inverse(stored: &Record) -> bool {
     match mat3_inverse::try_inverse(matrix(stored)) {
         Inverse::Of(a, b, c, d, e, f, g, h, i) => agree(&[a, b, c, d, e, f, g, h, i], stored, 0),
         Inverse::ZeroDeterminant => crate::refused(stored, 1),
-        Inverse::NanDeterminant => crate::refused(stored, 16),
     }
 }
 
@@ -135,7 +134,6 @@ fn located(found: Located, stored: &Record) -> bool {
     match found {
         Located::Inside(r, s, t) => agree(&[r, s, t], stored, 0),
         Located::Flat => crate::refused(stored, 1),
-        Located::NotANumber => crate::refused(stored, 16),
         Located::Outside => crate::refused(stored, 2),
     }
 }

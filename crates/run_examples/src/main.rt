@@ -78,7 +78,6 @@ fn locate(label: &[u8], p: [f64; 24]) {
     match hex_locate::parametric_coord_for_origin(p) {
         Located::Inside(r, s, t) => say_inside(r, s, t),
         Located::Flat => say_refused(1),
-        Located::NotANumber => say_refused(16),
         Located::Outside => say_refused(2),
     }
 }

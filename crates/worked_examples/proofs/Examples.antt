@@ -4,15 +4,10 @@ use mathlib.Core.Path.{◌≡◌, refl, ◌∙◌, ap, ap₂}
 use mathlib.Core.List.{List, [], ◌∷◌, ◌++◌, map}
 use lib.IntN.{ℤ, pos, neg_ℤ, ◌*ℤ◌}
 use lib.ListN.{get_or}
-use lib.Ieee.{Float, binary64, add, sub, mul, div, neg, of_bits, le, lt, eq, is_nan}
-use Rattle.mat3_inverse.specs.Inverse.{rust_inverse, inverse}
-use Rattle.cell.specs.Newton.{step_from, verdict}
-use Rattle.hex_image.specs.Image as Hex
-use Rattle.hex_locate.specs.Locate as HexLocate
-use Rattle.prism_image.specs.Image as Prism
-use Rattle.prism_locate.specs.Locate as PrismLocate
+use lib.Ieee.{add, sub, mul, div, neg, of_bits, le, lt, eq}
+use Rattle.hex_image.specs.Image.{image_at}
 use Rattle.hex_iso_mask.specs.Cut.{mask_of}
-use Rattle.probe.specs.Check.{good_corners, checked, located_checked}
+use Rattle.probe.specs.Check.{good_corners, checked}
 use Rattle.numbers.specs.Little.{bytes, all_bytes}
 use Rattle.faults.specs.Faults.{fault_at, first_to}
 use Rattle.descendant.specs.Place.{sign, place, descended}
@@ -20,11 +15,9 @@ use Rattle.hxm_write.specs.Writes.{file_for, file_into}
 use Rattle.numbers.specs.FirstMet.{meet}
 use Rattle.numbering.specs.Refinement.{chain, twisted, given_by}
 use Rattle.refine.specs.Refine.{refined}
-use Rattle.binary64.specs.Binary64.{f0}
 use Rattle.binary64.specs.Exact.{size_in, is_negative}
 use Rattle.grid_number.specs.Grid.{grid_number}
-use Rattle.answer.specs.Answer.{Answer, answered, refused, and_then, after, each}
-use Rattle.answer.proofs.Steps.{after_from}
+use Rattle.answer.specs.Answer.{answered, each}
 use Rattle.buffer.specs.Put.{joined}
 use Rattle.text.specs.Text.{decimal_in}
 use Rattle.numbers.specs.Little.{little, number_at}
@@ -41,7 +34,7 @@ use Rattle.metal_mesh.specs.Mesh.{stands_at, children_hold, cells_hold}
 use Rattle.metal_mesh.proofs.Mesh.{mesh_keeps_the_metal}
 use Rattle.volume_report.specs.Report.{grid_numbers, cell_volume, report_of}
 use Rattle.volume_lines.specs.Lines.{printed}
-use Rattle.worked_examples.specs.Examples.{Said, floats, wholes, Example, earlier, metal, bad_numbers, twenty_steps, double_root, small, held, side, bent, folded, flat, crooked, glued, ExamplesHold}
+use Rattle.worked_examples.specs.Examples.{Said, wholes, Example, earlier, metal, held, side, bent, folded, flat, crooked, glued, ExamplesHold}
 
 -- what a definition gives
 abbrev found : Example → Said
@@ -51,7 +44,7 @@ abbrev paper : Example → Said
 paper e = e.paper
 
 earlier_hold : map found earlier ≡ map paper earlier
-unfolding add sub mul div neg of_bits le lt eq mask_of Hex.image_at good_corners checked sign place descended bytes all_bytes fault_at first_to file_for file_into meet chain
+unfolding add sub mul div neg of_bits le lt eq mask_of image_at good_corners checked sign place descended bytes all_bytes fault_at first_to file_for file_into meet chain
     twisted given_by refined size_in is_negative grid_number each joined decimal_in little number_at mesh_at mesh_of fault_of volume216 grid_numbers cell_volume report_of
     printed
 earlier_hold = refl
@@ -87,72 +80,37 @@ middle_stands : tabulate 3 (λ (i : ℕ). stands_at (crooked i) 12 glued 26) ≡
 unfolding meet chain given_by
 middle_stands = refl
 
--- entry k of a list: the facts are proved one by one, since each takes its steps
-abbrev Holds : List Example → ℕ → Type 0
-Holds list k = get_or (map found list) k (wholes []) ≡ get_or (map paper list) k (wholes [])
+-- entry k of the list: the facts are proved one by one, since each takes its steps
+abbrev Holds : ℕ → Type 0
+Holds k = get_or (map found metal) k (wholes []) ≡ get_or (map paper metal) k (wholes [])
 
-cube_held : Holds metal 0
+cube_held : Holds 0
 cube_held = held_by_lem (λ (i : ℕ). side i 2)
 
-bent_held : Holds metal 1
+bent_held : Holds 1
 bent_held = held_by_lem bent
 
-bent_stands : Holds metal 2
+bent_stands : Holds 2
 bent_stands = refl
 
-folded_held : Holds metal 3
+folded_held : Holds 3
 folded_held = held_by_lem folded
 
-flat_held : Holds metal 4
+flat_held : Holds 4
 flat_held = held_by_lem flat
 
-largest_held : Holds metal 5
+largest_held : Holds 5
 largest_held = held_by_lem (λ (i : ℕ). side i 2048)
 
-glued_held : Holds metal 6
+glued_held : Holds 6
 glued_held = λ j. wholes (cells_held j ∷ children_held j ∷ [])
 
-glued_stands : Holds metal 7
+glued_stands : Holds 7
 glued_stands = λ j. wholes (middle_stands j)
 
 metal_hold : map found metal ≡ map paper metal
 metal_hold = λ j.
     cube_held j ∷ bent_held j ∷ bent_stands j ∷ folded_held j ∷ flat_held j ∷ largest_held j ∷ glued_held j ∷ glued_stands j ∷ wholes (pos 0 ∷ pos 0 ∷ []) ∷ []
 
--- a step of a locator computes, and so do the tests of the checked one
-bad_numbers_hold : map found bad_numbers ≡ map paper bad_numbers
-unfolding add sub mul div neg of_bits le lt eq is_nan rust_inverse inverse after step_from Hex.image_at Hex.jacobian_at HexLocate.step HexLocate.located
-    Prism.image_at Prism.jacobian_at PrismLocate.step PrismLocate.located good_corners located_checked
-bad_numbers_hold = refl
-
--- the twenty steps of the double root in two parts, since each takes its steps
-ten_steps : List Float
-ten_steps = of_bits binary64 0x3fdf_f800_0000_0000 ∷ of_bits binary64 0x3fdf_f800_0000_0000 ∷ f0 ∷ []
-
-ten_steps_lem : after (HexLocate.step (double_root small)) HexLocate.start 10 ≡ answered ten_steps
-unfolding add sub mul div neg of_bits eq is_nan rust_inverse inverse after step_from Hex.image_at Hex.jacobian_at HexLocate.step
-ten_steps_lem = refl
-
-outside : HexLocate.located (double_root small) ≡ refused 2
-unfolding add sub mul div neg of_bits le lt eq is_nan rust_inverse inverse after step_from Hex.image_at Hex.jacobian_at HexLocate.step HexLocate.located
-outside =
-    ap (λ (a : Answer (List Float)). and_then a (verdict HexLocate.inside)) (after_from (HexLocate.step (double_root small)) HexLocate.start 10 10 ten_steps ten_steps_lem)
-
-large : Holds twenty_steps 0
-unfolding add sub mul div neg of_bits le lt eq is_nan rust_inverse inverse after step_from Hex.image_at Hex.jacobian_at HexLocate.step HexLocate.located
-large = refl
-
-beside : Holds twenty_steps 1
-unfolding add sub mul div neg of_bits le lt eq is_nan rust_inverse inverse after step_from Hex.image_at Hex.jacobian_at HexLocate.step HexLocate.located
-beside = refl
-
-smaller : Holds twenty_steps 3
-unfolding add sub mul div neg of_bits le lt eq is_nan rust_inverse inverse after step_from Hex.image_at Hex.jacobian_at HexLocate.step HexLocate.located
-smaller = refl
-
-twenty_steps_hold : map found twenty_steps ≡ map paper twenty_steps
-twenty_steps_hold = λ j. large j ∷ beside j ∷ floats (outside j) ∷ smaller j ∷ []
-
 pub examples_hold : ExamplesHold
-examples_hold =
-    let both = ap₂ (λ (xs ys : List Said). xs ++ ys) in both earlier_hold (both metal_hold (both bad_numbers_hold twenty_steps_hold))
+examples_hold = ap₂ (λ (xs ys : List Said). xs ++ ys) earlier_hold metal_hold

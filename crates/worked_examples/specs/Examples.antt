@@ -1,20 +1,17 @@
 -- The worked examples of document 01 that are marked P, and those of document 02's requests, each on the definition that the contracts cite.
 -- Definitions and the claim only.
 use Rattle.std.specs.Prelude.{ℕ, ◌+◌, ◌*◌, ◌≡◌, Bool, true, false, cond, List, [], ◌∷◌, ◌++◌, map, eqb, Float, ℤ, pos, negsuc, neg_ℤ, set, get_or}
-use Rattle.std.specs.Float.{nan, binary64}
-use Rattle.std.specs.Float.Ieee.{of_bits, neg}
+use Rattle.std.specs.Float.{binary64}
+use Rattle.std.specs.Float.Ieee.{of_bits}
 use Rattle.numbers.specs.Rule.{tabulate, grid}
-use Rattle.binary64.specs.Binary64.{◌⊖◌, ◌⊗◌, ◌!◌, f0, f1, m1, infinity}
+use Rattle.binary64.specs.Binary64.{f0, f1, m1}
 use Rattle.answer.specs.Answer.{Answer, answered, refused, left}
-use Rattle.mat3_inverse.specs.Inverse.{inverse}
 use Rattle.hexahedron.specs.Cube.{upper}
 use Rattle.hex_shape.specs.Shape as Hex
 use Rattle.prism_shape.specs.Shape as Prism
-use Rattle.hex_locate.specs.Locate as HexLocate
-use Rattle.prism_locate.specs.Locate as PrismLocate
 use Rattle.hex_iso_mask.specs.Cut.{mask_of, iso_mask}
 use Rattle.hex_iso_position.specs.Position.{iso_position}
-use Rattle.probe.specs.Check.{checked, located_checked}
+use Rattle.probe.specs.Check.{checked}
 use Rattle.descendant.specs.Place.{descended}
 use Rattle.integers.specs.Sums.{sum_to}
 use Rattle.exact_volume.specs.Volume.{volume216}
@@ -91,12 +88,9 @@ too_small = of_bits binary64 0x39a0_0000_0000_0000
 abbrev minus_zero : Float
 minus_zero = of_bits binary64 0x8000_0000_0000_0000
 
--- the cube from a to b on each axis; [-2,2], and the same with another first coordinate of corner 0
-abbrev cube_from : Float → Float → List Float
-cube_from a b = grid 8 3 (λ (k i : ℕ). cond (upper k i) b a)
-
+-- the cube [-2,2], and the same with another first coordinate of corner 0
 abbrev cube : List Float
-cube = cube_from minus_two two
+cube = grid 8 3 (λ (k i : ℕ). cond (upper k i) two minus_two)
 
 abbrev cube_with : Float → List Float
 cube_with x = set cube 0 x
@@ -185,43 +179,6 @@ abbrev cube_file : List ℕ
 cube_file =
     file_of (mesh_of_lists (grid 8 3 (λ (k i : ℕ). cond (upper k i) 0x4000_0000_0000_0000 0)) (tabulate 8 (λ (k : ℕ). k)))
 
--- the matrix with these on its diagonal, and nine zeros but for the one in the middle
-abbrev diag : Float → Float → Float → List Float
-diag a b c = a ∷ f0 ∷ f0 ∷ f0 ∷ b ∷ f0 ∷ f0 ∷ f0 ∷ c ∷ []
-
--- the float with these bits, and the cube of this half width
-abbrev float : ℕ → Float
-float b = of_bits binary64 b
-
-abbrev of_half_width : Float → List Float
-of_half_width x = cube_from (neg x) x
-
--- the prism's corner places, with y of corner 3 NaN
-abbrev unknown_prism : List Float
-unknown_prism = set (grid 6 3 (λ (k i : ℕ). get_or Prism.places k [] ! i)) 10 nan
-
--- 2^100, minus that, and 2^-100 in corners that are good
-abbrev wild : List Float
-wild =
-    most ∷ f0 ∷ f0 ∷ neg most ∷ neg most ∷ f0 ∷ f0 ∷ f0 ∷ f0 ∷ f0 ∷ neg most ∷ f0
-    ∷ f0 ∷ f0 ∷ f0 ∷ f0 ∷ neg most ∷ f0 ∷ f0 ∷ f0 ∷ f0 ∷ float 0x39b0_0000_0000_0000 ∷ f0 ∷ most ∷ []
-
--- the corners ((r-s) u, (r-1/2)(s-1/2) u, t u) for the cube's signs r, s, t: Newton halves its way to a double root
-abbrev sign_of : ℕ → ℕ → Float
-sign_of k i = cond (upper k i) f1 m1
-
-abbrev pub double_root : Float → List Float
-double_root u =
-    grid 8 3
-    (λ (k i : ℕ).
-    get_or
-    ((sign_of k 0 ⊖ sign_of k 1) ⊗ u ∷ (sign_of k 0 ⊖ half) ⊗ (sign_of k 1 ⊖ half) ⊗ u ∷ sign_of k 2 ⊗ u ∷ [])
-    i nan)
-
--- 2^-335
-abbrev pub small : Float
-small = float 0x2b00_0000_0000_0000
-
 abbrev pub earlier : List Example
 earlier =
     -- "P1 Hex shape at (1,1,1): 1 at node 6, +0 elsewhere. P2 Prism at (0,0,1): 1 at node 3."
@@ -301,38 +258,8 @@ metal =
     (wholes (times 2 (pos 0)))
     ∷ []
 
-abbrev pub bad_numbers : List Example
-bad_numbers =
-    -- 6/12: a NaN determinant, also of nine zeros but one NaN, since 0 times NaN is NaN; an infinite one, which goes on to nine plus zeros; and zero
-    requested 6 (floats (inverse (diag f1 f1 nan))) (floats (refused 16))
-    ∷ requested 6 (floats (inverse (diag f0 nan f0))) (floats (refused 16))
-    ∷ requested 6 (floats (inverse (diag (float 0x58f0_0000_0000_0000) (float 0x58f0_0000_0000_0000) (float 0x58f0_0000_0000_0000))))
-    (floats (answered (tabulate 9 (λ (k : ℕ). f0))))
-    ∷ requested 6 (floats (inverse (diag f0 f0 f0))) (floats (refused 1))
-    -- the cube [-2,2] with a coordinate NaN, or infinite; and a prism
-    ∷ requested 6 (floats (HexLocate.located (cube_with nan))) (floats (refused 16))
-    ∷ requested 6 (floats (HexLocate.located (cube_with infinity))) (floats (refused 16))
-    ∷ requested 6 (floats (located_checked (cube_with nan) f1)) (floats (refused 3))
-    ∷ requested 6 (floats (PrismLocate.located unknown_prism)) (floats (refused 16))
-    -- no NaN in the mesh: cubes of half width 1e-104, 1e-108 and 1e155; and good corners, at the second step
-    ∷ requested 6 (floats (HexLocate.located (of_half_width (float 0x2a56_ef5b_40c2_fc77)))) (floats (refused 16))
-    ∷ requested 6 (floats (HexLocate.located (of_half_width (float 0x2982_c9d0_b192_3745)))) (floats (refused 1))
-    ∷ requested 6 (floats (HexLocate.located (of_half_width (float 0x601d_d557_45cb_b7ed)))) (floats (refused 16))
-    ∷ requested 6 (floats (located_checked wild f1)) (floats (refused 16))
-    ∷ []
-
-abbrev pub twenty_steps : List Example
-twenty_steps =
-    -- an infinite determinant goes on, and the place is inside: the cube of half width 1e103, and [2^342, 3 · 2^342]
-    requested 6 (floats (HexLocate.located (of_half_width (float 0x5551_dbf3_16b3_46e8)))) (floats (answered (at f0)))
-    ∷ requested 6 (floats (HexLocate.located (cube_from (float 0x5550_0000_0000_0000) (float 0x5568_0000_0000_0000)))) (floats (answered (at f0)))
-    -- with u = 2^-335 the place is NaN after the twentieth step, and no determinant was; with 2^-336 the eighteenth is
-    ∷ requested 6 (floats (HexLocate.located (double_root small))) (floats (refused 2))
-    ∷ requested 6 (floats (HexLocate.located (double_root (float 0x2af0_0000_0000_0000)))) (floats (refused 16))
-    ∷ []
-
 abbrev pub examples : List Example
-examples = earlier ++ metal ++ bad_numbers ++ twenty_steps
+examples = earlier ++ metal
 
 -- "The P examples are one list with a single proved claim on the definitions"
 abbrev pub ExamplesHold : Type 0

@@ -9,9 +9,6 @@ returns c = simp (c.before.before.before.inverse.given.1, c.moved.ensures, c.bef
 returns_2 : tie.Need-returns-2
 returns_2 c = simp c.enum_told.given.1
 
-returns_3 : tie.Need-returns-3
-returns_3 c = simp c.enum-told2.given.1
-
 pub newton_step_spec : {M : Type 1} → statement M
 newton_step_spec =
-    tie.close (tie.spec (λ c. search rules) (λ c κs. search rules) (λ c κs. search rules) (λ c. search rules) (λ c. search rules) returns returns_2 returns_3)
+    tie.close (tie.spec (λ c. search rules) (λ c κs. search rules) (λ c κs. search rules) (λ c. search rules) returns returns_2)

@@ -10,8 +10,5 @@ returns c = rw c.before.before.found.given.1 (refl, refl)
 returns_2 : tie.Need-returns-2
 returns_2 c = rw c.enum_told.given.1 (refl, refl)
 
-returns_3 : tie.Need-returns-3
-returns_3 c = rw c.enum-told2.given.1 (refl, refl)
-
 pub put_inverse_spec : {M : Type 1} → statement M
-put_inverse_spec = tie.close (tie.spec (λ c. search rules) (λ c. search rules) (λ c. search rules) returns returns_2 returns_3)
+put_inverse_spec = tie.close (tie.spec (λ c. search rules) (λ c. search rules) returns returns_2)

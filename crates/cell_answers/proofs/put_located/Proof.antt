@@ -13,9 +13,6 @@ returns_2 c = rw c.enum_told.given.1 (refl, refl)
 returns_3 : tie.Need-returns-3
 returns_3 c = rw c.enum-told2.given.1 (refl, refl)
 
-returns_4 : tie.Need-returns-4
-returns_4 c = rw c.enum-told3.given.1 (refl, refl)
-
 pub put_located_spec : {M : Type 1} → statement M
 put_located_spec =
-    tie.close (tie.spec (λ c. search rules) (λ c. search rules) (λ c. search rules) (λ c. search rules) returns returns_2 returns_3 returns_4)
+    tie.close (tie.spec (λ c. search rules) (λ c. search rules) (λ c. search rules) returns returns_2 returns_3)

@@ -2,9 +2,8 @@
 -- refused is the answer, and after the twentieth the inside test is. Assumes nothing.
 use Prim.Native.Nat.{◌-◌}
 use native.Mathlib.Omega.{arith}
-use mathlib.Core.Path.{refl, sym, ◌∙◌, ap}
+use mathlib.Core.Path.{refl}
 use borrow.Author.Rules.{rules}
-use Rattle.cell.specs.Newton.{step_told}
 use Rattle.cell.proofs.Newton.{Reached, at_the_start, one_step_on, refused_early, after_twenty}
 use Rattle.hex_locate.specs.Locate.{step, start, inside, located}
 use Rattle.hex_locate.proofs.newton.Statement.{statement}
@@ -23,22 +22,16 @@ returns : tie.Need-returns invariant_loop decreases_loop
 unfolding located
 returns c =
     let turn = c.before.before.before.before.before in
-    refused_early turn.loop.invariant inside (omega arith) (ap step_told (sym c.enum_told.given.1) ∙ c.before.before.step_from.ensures)
-
-returns_2 : tie.Need-returns-2 invariant_loop decreases_loop
-unfolding located
-returns_2 c =
-    let turn = c.before.before.before.before.before in
-    refused_early turn.loop.invariant inside (omega arith) (ap step_told (sym c.enum-told2.given.1) ∙ c.before.before.step_from.ensures)
+    refused_early turn.loop.invariant inside (omega arith) c.before.before.step_from.ensures c.enum_told.given.1
 
 loop_again : tie.Need-loop-preserved invariant_loop decreases_loop
 loop_again c =
     let turn = c.before.before.before.before.before.before in
     one_step_on turn.loop.invariant (omega arith) c.before.before.before.step_from.ensures c.before.to.given.1
 
-returns_3 : tie.Need-returns-3 invariant_loop decreases_loop
+returns_2 : tie.Need-returns-2 invariant_loop decreases_loop
 unfolding located
-returns_3 c = after_twenty c.before.before.loop.invariant inside (omega arith) c.answer.ensures
+returns_2 c = after_twenty c.before.before.loop.invariant inside (omega arith) c.answer.ensures
 
 pub newton_spec : {M : Type 1} → statement M
 newton_spec =
@@ -51,10 +44,8 @@ newton_spec =
     (λ c. search rules)
     (λ c. search rules)
     returns
-    (λ c. search rules)
-    returns_2
     (λ c. omega arith)
     (λ c. omega arith)
     loop_again
     (λ c κs. search rules)
-    returns_3)
+    returns_2)

@@ -16,14 +16,4 @@ returns_2 c =
 pub kept_spec : {M : Type 1} → statement M
 kept_spec =
     tie.close
-    (tie.spec
-    (λ c. search rules)
-    (λ c κs. search rules)
-    returns
-    (λ c. search rules)
-    (λ c. search rules)
-    (λ c. search rules)
-    returns_2
-    (λ c. search rules)
-    (λ c. search rules)
-    (λ c. search rules))
+    (tie.spec (λ c. search rules) (λ c κs. search rules) returns (λ c. search rules) (λ c. search rules) returns_2 (λ c. search rules) (λ c. search rules))
