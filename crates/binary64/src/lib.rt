@@ -1,1 +1,2 @@
 // The words that definitions are written in stand in specs/: there is no code here.
+#![tactic(auto)]

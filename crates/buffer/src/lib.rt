@@ -1,5 +1,7 @@
 // Bytes put into a lent buffer, from a place on. Each function answers the place behind what it put. Where the buffer has no room for the whole of
 // it, nothing is written, and the place is answered as it was.
+#![tactic(auto)]
+
 ghost use Rattle.std.specs.Prelude.{◌≡◌, [], ◌∷◌, ◌+◌, ◌*◌, ◌≤◌, leb, length};
 ghost use Rattle.numbers.specs.Little.{bytes, all_bytes};
 ghost use Rattle.buffer.specs.Put.{Puts, Wrote};

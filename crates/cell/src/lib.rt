@@ -1,4 +1,6 @@
 // What the two cells share: a point, the answers of a locator and of a volume, the image and the Jacobian over any number of corners, and one Newton step.
+#![tactic(auto)]
+
 ghost use Rattle.std.specs.Prelude.{◌≡◌, ◌<◌};
 ghost use Rattle.numbers.specs.Rule.{tabulate};
 ghost use Rattle.binary64.specs.Binary64.{◌⊗◌, ◌!◌};

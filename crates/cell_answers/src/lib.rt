@@ -1,4 +1,6 @@
 // What the answer of a matrix, a locator or a volume leaves in lent memory, for C: its values and 0, or a refusal's number and nothing else (`Leaves`).
+#![tactic(auto)]
+
 ghost use Rattle.answer.specs.Answer.{Leaves};
 ghost use Rattle.mat3_inverse.specs.Inverse.{told as inverseTold};
 ghost use Rattle.cell.specs.Newton.{told};

@@ -1,4 +1,6 @@
 // Where the corners of a hexahedron's descendants stand, in whole numbers.
+#![tactic(auto)]
+
 ghost use Rattle.std.specs.Prelude.{◌≡◌, ℕ, ◌^◌, ◌<◌, ◌≤◌, pos, ◌*ℤ◌, length, get_or};
 ghost use Rattle.descendant.specs.Place.{sign, place, octants, descended, told};
 

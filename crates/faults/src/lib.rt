@@ -1,4 +1,6 @@
 // The faults of a list of cells, eight node numbers each: what a mesh's reader and its refinement both refuse.
+#![tactic(auto)]
+
 ghost use Rattle.std.specs.Prelude.{◌≡◌, not, ◌+◌, ◌*◌, ◌≤◌, ◌<◌, length};
 ghost use Rattle.numbers.specs.Rule.{tabulate};
 ghost use Rattle.faults.specs.Faults.{node, names, in_range, new_at, different, fault, first_fault};

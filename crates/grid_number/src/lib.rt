@@ -1,4 +1,6 @@
 // The whole number that a word of a node holds. A NaN's pattern is a word like any other, and is refused by its bits.
+#![tactic(auto)]
+
 ghost use Rattle.std.specs.Prelude.{◌≡◌};
 ghost use Rattle.std.specs.Float.Ieee.{of_bits};
 ghost use Rattle.std.specs.Float.{binary64};

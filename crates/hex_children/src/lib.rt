@@ -1,4 +1,6 @@
 // hex.rs: the eight children of a hexahedron.
+#![tactic(auto)]
+
 ghost use Rattle.std.specs.Prelude.{◌≡◌};
 ghost use Rattle.hex_children.specs.Children.{children};
 

@@ -1,4 +1,6 @@
 // hex.rs: the slopes of the shape functions in space.
+#![tactic(auto)]
+
 ghost use Rattle.std.specs.Prelude.{◌≡◌, [], ◌∷◌, ◌<◌};
 ghost use Rattle.hex_gradient.specs.Gradient.{gradient_det, slope_in_space, slopes_in_space, gradient, shape_gradient};
 

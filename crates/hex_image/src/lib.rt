@@ -1,4 +1,6 @@
 // hex.rs: the image of a place, and its slopes. Corners are 24 floats, corner by corner, as is whatever has three floats a corner.
+#![tactic(auto)]
+
 ghost use Rattle.std.specs.Prelude.{◌≡◌};
 ghost use Rattle.cell.specs.Image.{jacobian};
 ghost use Rattle.hex_image.specs.Image.{image_at, jacobian_at};

@@ -1,4 +1,6 @@
 // hex.rs: `iso_surface` up to its triangles, where the surface of value zero cuts the twelve edges of a cube.
+#![tactic(auto)]
+
 ghost use Rattle.std.specs.Prelude.{◌≡◌, ◌+◌, ◌*◌, ◌<◌, set};
 ghost use Rattle.numbers.specs.Bits.{bit};
 ghost use Rattle.numbers.specs.Rule.{tabulate, grid};

@@ -1,4 +1,6 @@
 // hex.rs: `ISO_EDGE` and the start of `iso_surface`, which edges of a cube the surface of value zero cuts.
+#![tactic(auto)]
+
 ghost use Rattle.std.specs.Prelude.{◌≡◌, ◌<◌};
 ghost use Rattle.hex_iso_mask.specs.Cut.{sign_index, mask_of, iso_mask, iso_cut, mask_told};
 

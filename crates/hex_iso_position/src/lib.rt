@@ -1,4 +1,6 @@
 // hex.rs: `iso_position_on_edge`, where the surface of value zero cuts the line between two corners of a cube.
+#![tactic(auto)]
+
 ghost use Rattle.std.specs.Prelude.{◌≡◌, cond, ◌<◌, eqb};
 ghost use Rattle.numbers.specs.Rule.{tabulate};
 ghost use Rattle.binary64.specs.Binary64.{f1, m1};

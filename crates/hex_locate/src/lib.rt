@@ -1,4 +1,6 @@
 // hex.rs: where the origin lies in a hexahedron, by twenty Newton steps.
+#![tactic(auto)]
+
 ghost use Rattle.std.specs.Prelude.{◌≡◌};
 ghost use Rattle.cell.specs.Newton.{coords, step_told, told, verdict};
 ghost use Rattle.hex_locate.specs.Locate.{step, within, inside, located};

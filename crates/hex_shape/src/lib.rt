@@ -1,4 +1,6 @@
 // hex.rs: the shape functions of the hexahedron, and their slopes, three a corner.
+#![tactic(auto)]
+
 ghost use Rattle.std.specs.Prelude.{◌≡◌};
 ghost use Rattle.hex_shape.specs.Shape.{shape, slopes};
 

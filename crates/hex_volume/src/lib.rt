@@ -1,4 +1,6 @@
 // hex.rs: the volume of a hexahedron, by points that the caller lends.
+#![tactic(auto)]
+
 ghost use Rattle.std.specs.Prelude.{◌≡◌, ◌≤◌, ◌<◌};
 ghost use Rattle.cell.specs.Points.{point_count, told};
 ghost use Rattle.hex_volume.specs.Volume.{term_at, sum_of_terms, volume};

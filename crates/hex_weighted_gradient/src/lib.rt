@@ -1,4 +1,6 @@
 // hex.rs: the slopes of the shape functions in space at a quadrature point, with its weight.
+#![tactic(auto)]
+
 ghost use Rattle.std.specs.Prelude.{◌≡◌, ◌<◌};
 ghost use Rattle.answer.specs.Answer.{Leaves};
 ghost use Rattle.cell.specs.Points.{point_count};

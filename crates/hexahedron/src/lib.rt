@@ -1,4 +1,6 @@
 // hex.rs: the tables of the hexahedron. Corner order: xyz, Xyz, XYz, xYz, xyZ, XyZ, XYZ, xYZ.
+#![tactic(auto)]
+
 ghost use Rattle.std.specs.Prelude.{◌≡◌};
 ghost use Rattle.hexahedron.specs.Cube.{hex_sign, edges, idx2node};
 

@@ -1,6 +1,8 @@
 // Reads a mesh file from standard input and prints the children of its cells. No good file is as long as the buffer, so that a longer input is told
 // by what the buffer holds (hxm's claim EnoughToTell). Where standard input cannot be read, or standard output cannot be written, a line on standard
 // error says so; the exit status is 0 all the same, since no Rattle program has another.
+#![tactic(auto)]
+
 use input::Input;
 use libc::{STDERR_FILENO, STDIN_FILENO, STDOUT_FILENO};
 

@@ -1,4 +1,6 @@
 // The mesh file HXM, version 1.
+#![tactic(auto)]
+
 ghost use Rattle.std.specs.Prelude.{◌≡◌, ◌++◌, ◌+◌, ◌*◌, ◌<◌, ◌≤◌, length, drop};
 ghost use Rattle.numbers.specs.Little.{number_at, numbers_at};
 ghost use Rattle.faults.specs.Faults.{first_fault};

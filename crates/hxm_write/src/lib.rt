@@ -1,4 +1,6 @@
 // The writer of the mesh file HXM, version 1: from two flat lists into a lent buffer. The counts follow from the lists: nobody states one.
+#![tactic(auto)]
+
 ghost use Rattle.std.specs.Prelude.{◌≡◌, ◌≤◌, length};
 ghost use Rattle.answer.specs.Answer.{left};
 ghost use Rattle.buffer.specs.Put.{Wrote};

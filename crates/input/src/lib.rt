@@ -1,4 +1,6 @@
 // An input read whole into a lent buffer, and a failed read told.
+#![tactic(auto)]
+
 ghost use Rattle.std.specs.Prelude.{length};
 ghost use Rattle.input.specs.Within.{Within};
 

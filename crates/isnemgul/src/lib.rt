@@ -1,5 +1,7 @@
 // The C face: what a simulator links as libisnemgul.a (include/isnemgul.h). Each function takes its arguments apart, calls the Rattle face
 // and writes the answer. It returns 0 where it answered, and otherwise a refusal's number, and then no lent memory has changed: `Leaves`.
+#![tactic(auto)]
+
 ghost use Rattle.std.specs.Prelude.{◌≡◌, List, T, Float, length};
 ghost use Rattle.answer.specs.Answer.{answered, Leaves, left, number_of};
 ghost use Rattle.mat3_col_major.specs.Mat3.{transposed, product, det};

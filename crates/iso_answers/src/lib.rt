@@ -1,4 +1,6 @@
 // What the answer of an edge position or a mask leaves in lent memory, for C: its values and 0, or a refusal's number and nothing else (`Leaves`).
+#![tactic(auto)]
+
 ghost use Rattle.answer.specs.Answer.{Leaves};
 ghost use Rattle.hex_iso_mask.specs.Cut.{mask_told};
 ghost use Rattle.hex_iso_position.specs.Position.{position_told};

@@ -1,5 +1,7 @@
 // hex.rs: `ISO_EDGE`, the table that the library works out. Each of its entries is proved to be the mask of its index, and so what the library answers;
 // and the program compares the two when it runs. stdout holds what it has to print.
+#![tactic(auto)]
+
 ghost use Rattle.std.specs.Prelude.{◌≡◌, true, ◌<◌};
 ghost use Rattle.hex_iso_mask.specs.Cut.{mask_of};
 

@@ -1,5 +1,7 @@
 // The edges and faces of a mesh, each as one number, its key: the nodes in rising order are the digits. Faces that have one key, which is the same four nodes,
 // are told apart by the node opposite the smallest.
+#![tactic(auto)]
+
 ghost use Rattle.std.specs.Prelude.{◌≡◌, [], ◌∷◌, ◌+◌, ◌*◌, ◌<◌, ◌≤◌, min, max, length, get_or, replicate};
 ghost use Rattle.cell.specs.Edges.{end};
 ghost use Rattle.faults.specs.Faults.{node};

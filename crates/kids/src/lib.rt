@@ -1,4 +1,6 @@
 // What `hexkids` prints. The private functions write text into a buffer, from a place on, and answer the place behind it.
+#![tactic(auto)]
+
 ghost use Rattle.std.specs.Prelude.{◌≡◌, ◌+◌, ◌*◌, ◌<◌, ◌≤◌, length, take};
 ghost use Rattle.buffer.specs.Put.{Wrote};
 ghost use Rattle.text.specs.Text.{decimal, shown};

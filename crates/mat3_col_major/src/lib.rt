@@ -1,4 +1,6 @@
 // mat3_col_major.rs: 3 by 3 matrices of f64, column by column. The inverse is the room mat3_inverse.
+#![tactic(auto)]
+
 ghost use Rattle.std.specs.Prelude.{◌≡◌, ◌+◌, ◌<◌};
 ghost use Rattle.binary64.specs.Binary64.{◌⊕◌, ◌⊗◌, ◌!◌};
 ghost use Rattle.mat3_col_major.specs.Mat3.{transposed, product, det};

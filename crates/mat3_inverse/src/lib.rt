@@ -1,4 +1,6 @@
 // mat3_col_major.rs: the inverse of a 3 by 3 matrix of f64, column by column.
+#![tactic(auto)]
+
 ghost use Rattle.std.specs.Prelude.{◌≡◌, ◌<◌};
 ghost use Rattle.binary64.specs.Binary64.{◌⊖◌, ◌⊗◌, ◌!◌};
 ghost use Rattle.mat3_inverse.specs.Inverse.{scaled_cofactors, inverse, told};

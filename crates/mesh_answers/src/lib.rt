@@ -1,5 +1,7 @@
 // What the answer of a descendant, a refinement, a mesh file, read or written, or a report of volumes leaves in lent memory, for C:
 // its values and 0, or a refusal's number and nothing else (`Leaves`).
+#![tactic(auto)]
+
 ghost use Rattle.answer.specs.Answer.{Leaves};
 ghost use Rattle.descendant.specs.Place.{told as descendedTold};
 ghost use Rattle.hxm.specs.Reads.{told as readingTold};

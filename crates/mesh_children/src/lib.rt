@@ -1,4 +1,6 @@
 // The children of a mesh's cells, from lists of their nodes and of the numbers that their edges, faces and centres have.
+#![tactic(auto)]
+
 ghost use Rattle.std.specs.Prelude.{◌≡◌, ◌+◌, ◌*◌, ◌<◌, ◌≤◌, min, length, get_or};
 ghost use Rattle.numbers.specs.Rule.{tabulate};
 ghost use Rattle.answer.specs.Answer.{answered, left};

@@ -4,7 +4,7 @@ use native.Mathlib.Nat.{le_of_suc-le-suc, not-suc-le-zero, eq-or-lt_of_le}
 use native.Mathlib.Numerals.{add-one}
 use native.Mathlib.Omega.{arith}
 use mathlib.Core.Path.{◌≡◌, refl, sym, ap, ◌∙◌}
-use mathlib.Core.Bool.{Bool, true, false, not, ◌||◌, or_assoc, or-false, or-true}
+use mathlib.Core.Bool.{Bool, true, false, not, cond, ◌||◌, or_assoc, or-false, or-true}
 use mathlib.Core.List.{List, [], ◌∷◌, ◌++◌, append_assoc, append-nil}
 use mathlib.Core.Logic.{⊎_elim}
 use borrow.Author.Tests.{eqb-true}
@@ -53,7 +53,7 @@ module _ {A : Type 0} (same : A → A → Bool) where
   pub meet_append : (met xs ys : List A) → meet same met (xs ++ ys) ≡ meet same (meet same met xs) ys
   unfolding meet
   meet_append met [] ys = refl
-  meet_append met (x ∷ xs) ys = meet_append _ xs ys
+  meet_append met (x ∷ xs) ys = meet_append (cond (among same met x) met (met ++ (x ∷ []))) xs ys
 
   -- one thing more
   pub meet_old : (met : List A) (x : A) → among same met x ≡ true → meet same met (x ∷ []) ≡ met

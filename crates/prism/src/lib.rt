@@ -1,4 +1,6 @@
 // prism.rs: the table of the prism's edges. Corners 0, 1, 2 are the bottom triangle, 3, 4, 5 the top.
+#![tactic(auto)]
+
 ghost use Rattle.std.specs.Prelude.{◌≡◌};
 ghost use Rattle.prism.specs.Wedge.{edges};
 

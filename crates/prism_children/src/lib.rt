@@ -1,4 +1,6 @@
 // prism.rs: the eight children of a prism.
+#![tactic(auto)]
+
 ghost use Rattle.std.specs.Prelude.{◌≡◌};
 ghost use Rattle.prism_children.specs.Children.{children};
 

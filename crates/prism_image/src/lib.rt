@@ -1,4 +1,6 @@
 // prism.rs: the image of a place, and its slopes. Corners are 18 floats, corner by corner, as is whatever has three floats a corner.
+#![tactic(auto)]
+
 ghost use Rattle.std.specs.Prelude.{◌≡◌};
 ghost use Rattle.prism_image.specs.Image.{image_at, jacobian_at};
 

@@ -1,4 +1,6 @@
 // prism.rs: where the origin lies in a prism, by twenty Newton steps.
+#![tactic(auto)]
+
 ghost use Rattle.std.specs.Prelude.{◌≡◌, [], ◌∷◌};
 ghost use Rattle.cell.specs.Newton.{coords, step_told, told, verdict};
 ghost use Rattle.prism_locate.specs.Locate.{step, start, inside, located};

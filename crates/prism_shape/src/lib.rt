@@ -1,4 +1,6 @@
 // prism.rs: the shape functions of the prism, and their slopes, three a corner.
+#![tactic(auto)]
+
 ghost use Rattle.std.specs.Prelude.{◌≡◌};
 ghost use Rattle.prism_shape.specs.Shape.{shape, slopes};
 

@@ -1,5 +1,7 @@
 // prism.rs: the volume of a prism, by points that the caller lends, flat: line points of two floats (a place from -1 to 1, a weight),
 // triangle points of three (two coordinates, a weight).
+#![tactic(auto)]
+
 ghost use Rattle.std.specs.Prelude.{◌≡◌, ◌≤◌, ◌<◌};
 ghost use Rattle.cell.specs.Points.{point_count, told};
 ghost use Rattle.prism_volume.specs.Volume.{term_at, sum_of_terms, volume_answer};

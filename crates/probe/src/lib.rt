@@ -1,5 +1,7 @@
 // The distance check: how near is the image of a place in a hexahedron to the probe, which stands at the origin?
 // Corners are 24 floats, corner by corner, less the probe's place.
+#![tactic(auto)]
+
 ghost use Rattle.std.specs.Prelude.{◌≡◌, List, T, Float};
 ghost use Rattle.answer.specs.Answer.{answered, and_then};
 ghost use Rattle.cell.specs.Newton.{coords};

@@ -1,5 +1,7 @@
 // What the answer of a check, a checked locator or a list of proposals leaves in lent memory, for C: its values and 0,
 // or a refusal's number and nothing else (`Leaves`).
+#![tactic(auto)]
+
 ghost use Rattle.std.specs.Prelude.{◌≡◌};
 ghost use Rattle.answer.specs.Answer.{Leaves, number_of};
 ghost use Rattle.probe.specs.Check.{told as verdictTold, place_told};

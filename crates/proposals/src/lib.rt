@@ -1,4 +1,6 @@
 // A list of proposals, each judged by the distance check against one cell: corners are 24 floats, corner by corner, less the probe's place.
+#![tactic(auto)]
+
 ghost use Rattle.std.specs.Prelude.{ℕ, ◌≡◌, length};
 ghost use Rattle.answer.specs.Answer.{answered, left};
 ghost use Rattle.proposals.specs.Demand.{ZeroIsNear, NearIsZero, Each};

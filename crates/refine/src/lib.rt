@@ -1,6 +1,8 @@
 // A mesh refined: each cell is cut in eight, and what cells share gets one number.
 // An edge or a face is kept as its key, so that one search serves both and compares one number. A face's key is its nodes; those with one number then have to
 // have one ring, or the mesh is twisted.
+#![tactic(auto)]
+
 ghost use Rattle.std.specs.Prelude.{◌≡◌, cond, not, ◌+◌, ◌*◌, ◌^◌, ◌<◌, ◌≤◌, eqb, length, get_or};
 ghost use Rattle.numbers.specs.Rule.{all};
 ghost use Rattle.answer.specs.Answer.{answered, refused, left};

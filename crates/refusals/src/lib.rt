@@ -1,1 +1,2 @@
 // The numbers by which each entry refuses: a claim in specs/, proved in proofs/. There is no code here.
+#![tactic(auto)]

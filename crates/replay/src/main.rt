@@ -2,6 +2,8 @@
 // parts, with four zero bytes between. Of the first part it prints how many are answered as they were. The second has meshes, paths, files, lists to
 // write as files, and files whose volumes are reported: it prints what is answered and left in the lent lists, and stdout holds the second program's
 // own answers.
+#![tactic(auto)]
+
 mod cases;
 
 ghost use Rattle.std.specs.Prelude.{◌≡◌, ◌+◌, ◌<◌, ◌≤◌, length};

@@ -1,5 +1,7 @@
 // Worked examples that are run and not proved: document 01's, one for each refusal that a mesh meets, and document 02's. stdout holds what they have
 // to print.
+#![tactic(auto)]
+
 ghost use Rattle.std.specs.Prelude.{◌≤◌, ◌<◌, length};
 
 use cell::Located;

@@ -1,5 +1,7 @@
 // Decimal text put into a lent buffer, from a place on. Each public function answers the place behind what it put. Where the buffer has no room for the
 // whole of it, nothing is written, and the place is answered as it was.
+#![tactic(auto)]
+
 ghost use Rattle.std.specs.Prelude.{◌≡◌, ◌+◌, ◌^◌, ◌<◌, ◌≤◌, nat_abs, length};
 ghost use Rattle.buffer.specs.Put.{Puts, Wrote};
 ghost use Rattle.text.specs.Text.{decimal_in, decimal, signed_decimal, refused_line};

@@ -1,4 +1,6 @@
 // What `hexvol` prints. The private functions write text into a buffer, from a place on, and answer the place behind it.
+#![tactic(auto)]
+
 ghost use Rattle.std.specs.Prelude.{◌≡◌, ◌+◌, ◌*◌, ◌<◌, ◌≤◌, length, take};
 ghost use Rattle.buffer.specs.Put.{Puts, Wrote};
 ghost use Rattle.volume_lines.specs.Lines.{cell_line, cell_lines, total_line, cell_or_none, first_line, report_text, printed};

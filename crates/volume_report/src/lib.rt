@@ -1,4 +1,6 @@
 // The exact volumes of a mesh file: 216 times each cell's, the total, and the first cell that is not above zero.
+#![tactic(auto)]
+
 ghost use Rattle.std.specs.Prelude.{◌≡◌, cond, [], ◌∷◌, ◌+◌, ◌*◌, ◌/◌, ◌<◌, ◌≤◌, pos, length, take};
 ghost use Rattle.numbers.specs.Rule.{tabulate};
 ghost use Rattle.answer.specs.Answer.{answered, refused, left};
