@@ -7,8 +7,7 @@ use native.Mathlib.Omega.{arith}
 use Rattle.binary64.specs.Binary64.{◌⊖◌, ◌⊗◌, ◌!◌}
 use Rattle.binary64.proofs.Commutes.{mul_commutes}
 use Rattle.mat3_inverse.specs.Inverse.{scaled_cofactors}
-use Rattle.mat3_inverse.proofs.scaled_cofactors.Statement.{statement}
-use Rattle.mat3_inverse.proofs.scaled_cofactors.Tie as tie
+use Rattle.mat3_inverse.proofs.scaled_cofactors.Goals as goal
 
 module _ (s : Float) (b : List Float) where
   -- a line of the source, and two factors exchanged
@@ -22,34 +21,17 @@ module _ (s : Float) (b : List Float) where
       ≡ scaled_cofactors s b
   lines = rw (swap 5 7, swap 2 7, swap 2 4, swap 3 8, swap 0 8, swap 0 5, swap 4 6, swap 1 6, swap 1 3)
 
-returns : tie.Need-returns
+pub returns : goal.returns
 returns c =
-    let second = c.before.before.before in
-    let first = second.before.before.before in
     simp (
-      c.minor9.ensures,
-      c.before.minor8.ensures,
-      c.before.before.minor7.ensures,
-      second.minor6.ensures,
-      second.before.minor5.ensures,
-      second.before.before.minor4.ensures,
-      first.minor3.ensures,
-      first.before.minor2.ensures,
-      first.before.before.minor.ensures,
+      c.minor-9.ensures,
+      c.minor-8.ensures,
+      c.minor-7.ensures,
+      c.minor-6.ensures,
+      c.minor-5.ensures,
+      c.minor-4.ensures,
+      c.minor-3.ensures,
+      c.minor-2.ensures,
+      c.minor.ensures,
     )
-    (lines _ first.before.before.before.args.b)
-
-pub scaled_cofactors_spec : {M : Type 1} → statement M
-scaled_cofactors_spec =
-    tie.close
-    (tie.spec
-    (λ c κs. omega arith)
-    (λ c κs. omega arith)
-    (λ c κs. omega arith)
-    (λ c κs. omega arith)
-    (λ c κs. omega arith)
-    (λ c κs. omega arith)
-    (λ c κs. omega arith)
-    (λ c κs. omega arith)
-    (λ c κs. omega arith)
-    returns)
+    (lines _ c.args.b)
