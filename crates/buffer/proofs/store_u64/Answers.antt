@@ -1,0 +1,11 @@
+-- `buffer::store_u64` meets its contract: two numbers of four bytes each, the low one first. Assumes nothing.
+use native.Mathlib.Omega.{arith}
+use borrow.Author.Rules.{rules}
+use Rattle.numbers.proofs.Little.{bytes_halves}
+use Rattle.buffer.proofs.Writing.{wrote_on}
+use Rattle.buffer.proofs.store_u64.Goals as goal
+
+pub returns : goal.returns
+returns c =
+    let x = c.args.x in
+    wrote_on (omega arith) (bytes_halves 4 x) c.store_u32.ensures c.store_u32-2.ensures
