@@ -5,25 +5,22 @@ use mathlib.Core.Path.{refl}
 use lib.Dec.{lit<}
 use Rattle.numbers.proofs.Tabulate.{same_everywhere}
 use Rattle.hex_iso_mask.specs.Cut.{mask_of}
-use Rattle.hex_iso_mask.proofs.cut_edges.Statement.{statement}
-use Rattle.hex_iso_mask.proofs.cut_edges.Tie as tie
-use Rattle.hex_iso_mask.proofs.cut_edges.Lts as lts
-use Rattle.hex_iso_mask.proofs.cut_edges.Reads as reads
+use Rattle.hex_iso_mask.proofs.cut_edges.Goals as goal
 
 left_fits : (k : ℕ) → k % 256 < 2 ^ 32
 left_fits k = lt_trans (mod-lt k (lit< tt)) (lit< tt)
 
 -- the call with k, or with what 256 leaves of it
-abbrev called : ℕ → lts.Start reads.Pre reads.Post
+abbrev called : ℕ → goal.Start
 called k =
     record {
       args = record { cubeindex = k % 256 };
-      good = ((refl, left_fits k), tt);
-      fits = record { cubeindex = record { fits = left_fits k } };
-      pre = mod-lt k (lit< tt);
+      well_formed = ((refl, left_fits k), tt);
+      ranges = record { cubeindex = record { fits = left_fits k } };
+      requires = mod-lt k (lit< tt);
     }
 
-returns : tie.Need-returns
+pub returns : goal.returns
 unfolding mask_of
 returns =
     same_everywhere
@@ -34,6 +31,3 @@ returns =
     (λ c. rw (mod-eq_of_lt c.requires))
     (λ c. rw (mod-eq_of_lt c.requires))
     refl
-
-pub cut_edges_spec : {M : Type 1} → statement M
-cut_edges_spec = tie.close (tie.spec returns)
