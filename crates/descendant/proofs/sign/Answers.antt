@@ -10,10 +10,10 @@ use lib.IntN.{ℤ, pos, negsuc}
 use Rattle.numbers.specs.Rule.{tabulate}
 use Rattle.numbers.proofs.Tabulate.{tabulate_same}
 use Rattle.descendant.specs.Place.{sign}
-use Rattle.descendant.proofs.sign.Statement.{statement}
-use Rattle.descendant.proofs.sign.Tie as tie
+use Rattle.descendant.proofs.sign.Goals as goal
 
 -- what the code tests
+
 abbrev side : ℕ → ℕ → ℕ
 side k i = bit_and (bit_xor k (bit_and (k / 2 ^ 1) 1) / 2 ^ i) 1
 
@@ -26,15 +26,12 @@ by_bits k i h l =
     let rows = tabulate_same 8 (λ (k : ℕ). tabulate 3 (computed k)) (λ (k : ℕ). tabulate 3 (sign k)) refl in
     tabulate_same 3 (computed k) (sign k) (rows k h) i l
 
-returns : tie.Need-returns
-returns c =
-    let args = c.before.args in
-    rw (eq-eqb (side args.k args.i) 0 c.if1.true) at (by_bits args.k args.i (search rules) (search rules))
+pub returns-then-sides-i-eq0 : goal.returns-then-sides-i-eq0
+returns-then-sides-i-eq0 c =
+    let args = c.args in
+    rw (eq-eqb (side args.k args.i) 0 c.if-sides-i-eq0.true) at (by_bits args.k args.i (search rules) (search rules))
 
-returns_2 : tie.Need-returns-2
-returns_2 c =
-    let args = c.before.args in
-    rw (ne_eqb (side args.k args.i) 0 c.if1.false) at (by_bits args.k args.i (search rules) (search rules))
-
-pub sign_spec : {M : Type 1} → statement M
-sign_spec = tie.close (tie.spec (λ c. search rules) (λ c. search rules) returns returns_2)
+pub returns-else-sides-i-eq0 : goal.returns-else-sides-i-eq0
+returns-else-sides-i-eq0 c =
+    let args = c.args in
+    rw (ne_eqb (side args.k args.i) 0 c.if-sides-i-eq0.false) at (by_bits args.k args.i (search rules) (search rules))
