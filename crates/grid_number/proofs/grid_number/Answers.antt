@@ -17,11 +17,7 @@ use Rattle.rounding.proofs.Units.{Held}
 use Rattle.grid_number.specs.Grid.{grid_number}
 use Rattle.grid_number.proofs.Word.{limit, small, of_more}
 use Rattle.grid_number.proofs.Rounded.{rounded, fits_cast, equal, unequal}
-use Rattle.grid_number.proofs.grid_number.Statement.{statement}
-use Rattle.grid_number.proofs.grid_number.Tie as tie
-
-returns : tie.Need-returns
-returns c = sym (of_more c.before.args.word (omega (arith, c.if1.true)))
+use Rattle.grid_number.proofs.grid_number.Goals as goal
 
 -- a word that the first test lets through
 module _ (word : ℕ) (few : word % 2 ^ 63 ≤ limit) where
@@ -38,25 +34,25 @@ module _ (word : ℕ) (few : word % 2 ^ 63 ≤ limit) where
   castable = fits_cast float held (small word few).few
 
   whole : eq (rounded float) float ≡ true → answered (to_z w64 (of_z w64 (to_signed 63 (rounded float)))) ≡ grid_number float
-  whole e = ap answered (to_z-of_z (record { sfits = to_signed_in 63 (rounded float) })) ∙ sym (equal float held (small word few).few e)
+  whole e = ap answered (to_z-of_z {w = w64} (record { sfits = to_signed_in 63 (rounded float) })) ∙ sym (equal float held (small word few).few e)
 
   broken : eq (rounded float) float ≡ false → refused 15 ≡ grid_number float
   broken e = sym (unequal float held (small word few).few e)
 
-float_from_bits_x : tie.Need-float-from-bits-x
-float_from_bits_x c = no_nan c.before.args.word c.if1.false
+pub returns-then-word-gt-LIMIT : goal.returns-then-word-gt-LIMIT
+returns-then-word-gt-LIMIT c = sym (of_more c.args.word (omega (arith, c.if-word-gt-LIMIT.true)))
 
-float_to_int_number : tie.Need-float-to-int-number
+pub float_from_bits-x : goal.float_from_bits-x
+float_from_bits-x c = no_nan c.args.word c.if-word-gt-LIMIT.false
+
+pub float_to_int-number : goal.float_to_int-number
 unfolding of_bits
-float_to_int_number c = castable c.before.before.before.args.word c.before.before.if1.false
+float_to_int-number c = castable c.args.word c.if-word-gt-LIMIT.false
 
-returns_2 : tie.Need-returns-2
+pub returns-then-rounded-x : goal.returns-then-rounded-x
 unfolding of_bits
-returns_2 c = whole c.before.before.before.args.word c.before.before.if1.false c.before.if2.true
+returns-then-rounded-x c = whole c.args.word c.if-word-gt-LIMIT.false c.if-rounded-x.true
 
-returns_3 : tie.Need-returns-3
+pub returns : goal.returns
 unfolding of_bits
-returns_3 c = broken c.before.before.args.word c.before.if1.false c.if2.false
-
-pub grid_number_spec : {M : Type 1} → statement M
-grid_number_spec = tie.close (tie.spec returns float_from_bits_x float_to_int_number returns_2 returns_3)
+returns c = broken c.args.word c.if-word-gt-LIMIT.false c.if-rounded-x.false
