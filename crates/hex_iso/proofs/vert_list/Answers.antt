@@ -1,5 +1,5 @@
 -- `hex_iso::vert_list` meets its contract. The invariant: the rows of the edges passed are stored. Assumes nothing.
-use Prim.Native.Nat.{ℕ, ◌≤◌, ◌<◌, ◌-◌}
+use Prim.Native.Nat.{ℕ, ◌<◌}
 use native.Mathlib.Numerals.{add-one}
 use native.Mathlib.Omega.{arith}
 use mathlib.Core.Path.{◌≡◌, refl, ap, ◌∙◌}
@@ -17,8 +17,7 @@ use Rattle.hexahedron.proofs.Cube.{edges_of_the_cube}
 use Rattle.hex_iso_mask.specs.Cut.{cut, sign_index, mask_of}
 use Rattle.hex_iso.specs.Edges.{held_between, edge_on}
 use Rattle.hex_iso_mask.proofs.Cut.{cut_edges}
-use Rattle.hex_iso.proofs.vert_list.Statement.{statement}
-use Rattle.hex_iso.proofs.vert_list.Tie as tie
+use Rattle.hex_iso.proofs.vert_list.Goals as goal
 
 -- the ends of an edge are corners
 first_end : (table : List (List ℕ)) (e : ℕ) → table ≡ edges → e < 12 → end table e 0 < 8
@@ -39,60 +38,26 @@ by_the_mask center half_width value e0 e table signs held table_is signs_are mas
     let is_cut : bit e0 e ≡ cut (sign_index value) e = ap (λ (m : ℕ). bit m e) mask ∙ cut_edges.bits (sign_index value) e below in
     simp is_cut at (rw (table_is, signs_are) at is)
 
-abbrev invariant_loop : tie.invariant_loop
-invariant_loop center half_width e0 vertlist₀ value edge2node hex_sign i₀ vertlist i =
-    (i ≤ 12) × (vertlist ≡ fill_rows (edge_on center half_width value) 3 i vertlist₀)
-
-abbrev decreases_loop : tie.decreases_loop
-decreases_loop center half_width e0 vertlist₀ value edge2node hex_sign i₀ vertlist i = 12 - i
-
-loop_holds : tie.Need-loop-init invariant_loop decreases_loop
+pub loop-i_edge-init : goal.loop-i_edge-init
 unfolding fill_rows
-loop_holds c = (search rules, refl)
+loop-i_edge-init c = (search rules, refl)
 
-edge_vert_requires : tie.Need-edge-vert-requires invariant_loop decreases_loop
-edge_vert_requires c κs =
-    let turn = c.before.before.before.before.before in
-    let table = turn.before.before.before.edge2node.ensures in
-    let below : turn.loop.i_edge < 12 = omega arith in
+pub edge_vert-p-requires : goal.edge_vert-p-requires
+edge_vert-p-requires c =
+    let table = c.edge2node-edge2node.ensures in
+    let below : c.loop-i_edge.i_edge < 12 = omega arith in
     (below, first_end _ _ table below, second_end _ _ table below)
 
-loop_again : tie.Need-loop-preserved invariant_loop decreases_loop
+pub loop-i_edge-preserved : goal.loop-i_edge-preserved
 unfolding fill_row fill_rows
-loop_again c =
-    let held = c.before.before in
-    let turn = held.before.before.before.before.before.before in
-    let signs = turn.before.before in
-    let start = signs.before.before in
-    let at = start.args in
-    let row = by_the_mask at.center at.half_width at.t3 at.e0 turn.loop.i_edge _ _ _ signs.before.edge2node.ensures
-    signs.hex_sign.ensures start.requires (omega arith) held.edge_vert.ensures in
-    (search rules, simp (c.put_vert.ensures, row, turn.loop.invariant.1, add-one))
+loop-i_edge-preserved c =
+    let at = c.args in
+    let row = by_the_mask at.center at.half_width at.corner_value at.e0 c.loop-i_edge.i_edge _ _ _ c.edge2node-edge2node.ensures
+    c.hex_sign-hex_sign.ensures c.requires (omega arith) c.edge_vert-p.ensures in
+    (search rules, simp (c.put_vert.ensures, row, c.loop-i_edge.invariant.1, add-one))
 
-returns : tie.Need-returns invariant_loop decreases_loop
+pub returns : goal.returns
 unfolding fill_row fill_rows
 returns c =
-    let last : c.before.loop.i_edge ≡ 12 = omega arith in
-    rw last at c.before.loop.invariant.1
-
-pub vert_list_spec : {M : Type 1} → statement M
-vert_list_spec =
-    tie.close
-    (tie.spec
-    invariant_loop
-    decreases_loop
-    (λ c κs. search rules)
-    (λ c κs. search rules)
-    loop_holds
-    (λ c. search rules)
-    (λ c. search rules)
-    (λ c. search rules)
-    (λ c. search rules)
-    (λ c. search rules)
-    (λ c. search rules)
-    edge_vert_requires
-    (λ c κs. search rules)
-    (λ c. search rules)
-    (λ c. search rules)
-    loop_again
-    returns)
+    let last : c.loop-i_edge.i_edge ≡ 12 = omega arith in
+    rw last at c.loop-i_edge.invariant.1
