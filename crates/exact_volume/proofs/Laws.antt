@@ -4,13 +4,12 @@ use native.Mathlib.Omega.{arith}
 use mathlib.Core.Path.{sym, ◌∙◌, ap}
 use mathlib.Core.Bool.{Bool}
 use mathlib.Core.List.{[], ◌∷◌}
-use lib.Dec.{T, eqb, eqb→eq}
+use lib.Dec.{eqb, eqb→eq}
 use lib.IntN.{ℤ, neg_ℤ, ◌*ℤ◌}
 use Rattle.numbers.specs.Rule.{all}
 use Rattle.numbers.proofs.Tests.{all_at}
 use Rattle.integers.proofs.Expression.{Expression, var, ◌⊞◌, ◌⊠◌, minus, expressions}
 use Rattle.integers.proofs.Solve.{solve}
-use Rattle.exact_volume.specs.Volume.{weight}
 use Rattle.exact_volume.specs.Determinants.{by_determinants}
 use Rattle.exact_volume.specs.Laws.{box_corner, WeightsWhole, BoxVolume, MovedVolume, MirroredVolume, ScaledVolume}
 use Rattle.exact_volume.proofs.Corners.{numeral, X, Y, Z, corners}
