@@ -2,13 +2,11 @@
 use mathlib.Core.Path.{◌≡◌, ◌∙◌, ap}
 use mathlib.Core.List.{List}
 use lib.Ieee.{Float}
-use borrow.Author.Rules.{rules}
 use Rattle.binary64.specs.Binary64.{◌⊘◌, f1}
 use Rattle.mat3_inverse.specs.Inverse.{scaled_cofactors}
 use Rattle.hex_gradient.specs.Gradient.{gradient_det, slopes_in_space, from_jacobian}
 use Rattle.hex_gradient.specs.declared.Gradient.{Gradient}
-use Rattle.hex_gradient.proofs.slopes_into.Statement.{statement}
-use Rattle.hex_gradient.proofs.slopes_into.Tie as tie
+use Rattle.hex_gradient.proofs.slopes_into.Goals as goal
 
 abbrev record_of : List Float → Float → Gradient
 record_of dndx det = record { dndx = dndx; detjac = det }
@@ -19,15 +17,10 @@ module _ (dndr jac drdx dndx : List Float) (det : Float) where
   unfolding from_jacobian
   composed is_det is_drdx is_dndx = simp (is_dndx, is_drdx, is_det)
 
-returns : tie.Need-returns
+pub returns : goal.returns
 returns c =
-    let cofactors = c.before.before in
     let found =
-    composed _ _ _ _ _ cofactors.before.detjac.ensures cofactors.scaled_cofactors.ensures c.dndx_from_drdx.ensures
-    ∙ ap (from_jacobian _) cofactors.before.before.dxdr_from_dndr.ensures
-    in (ap (λ (g : Gradient). g.detjac) found, ap (λ (g : Gradient). g.dndx) found)
-
-pub slopes_into_spec : {M : Type 1} → statement M
-slopes_into_spec =
-    tie.close
-    (tie.spec (λ c κs. search rules) (λ c κs. search rules) (λ c κs. search rules) (λ c κs. search rules) returns)
+    composed _ _ _ _ _ c.detjac-detjac.ensures c.scaled_cofactors-drdx.ensures c.dndx_from_drdx.ensures
+    ∙ ap (from_jacobian _) c.dxdr_from_dndr-dxdr.ensures
+    in
+    record { determinant = ap (λ (g : Gradient). g.detjac) found; slopes = ap (λ (g : Gradient). g.dndx) found }
