@@ -117,7 +117,7 @@ pub fits : (d : ℕ) (x : ℤ) → d ≤ 20 → nat_abs x ≤ 2 ^ d → SFits w3
 fits d x few small = let most : 2 ^ d ≤ 2 ^ 20 = pow_mono few in record { sfits = omega (arith, size_mag x) }
 
 pub read_back : (x : ℤ) → mag x < 2 ^ 31 → to_z w32 (of_z w32 x) ≡ x
-read_back x small = to_z-of_z (record { sfits = small })
+read_back x small = to_z-of_z {w = w32} (record { sfits = small })
 
 pub power : (d : ℕ) → d ≤ 20 → to_z w32 ((1 * 2 ^ d) % 2 ^ 32) ≡ pos (2 ^ d)
 power d few =
