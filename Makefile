@@ -12,6 +12,7 @@
 # make bench       BENCH=--instructions BEFORE=ARCHIVE: times beside the original's, or instructions; beside an earlier archive's
 # make stack       the stack that each entry takes
 # make size        the bytes that the archive loads, by section and by entry, and what a logger loads of it
+# make programs    hexkids and hexvol, as target/bin/hexkids and target/bin/hexvol
 # make sanitize    the C programs under sanitizers, and the Rust crate's tests under valgrind
 # make clean       removes what was built
 CASES ?= 20000
@@ -96,7 +97,10 @@ second: $(DRIVE)
 
 PROGRAMS = hexkids hexvol
 
-.PHONY: examples rust bench size stack sanitize native
+programs:
+	@tools/programs $(PROGRAMS)
+
+.PHONY: programs examples rust bench size stack sanitize native
 
 native:
 	@[ -z "$(VIA)" ] || { echo "make $(MAKECMDGOALS): on x86-64 only: in an emulator times mean nothing, and valgrind and the sanitizers do not run" >&2; exit 2; }
@@ -134,7 +138,7 @@ stack: $(ARCHIVE)
 	@set -e; for name in $(PROGRAMS); do \
 	    if [ -n "$(VIA)" ]; then echo "$$name is skipped: the emulator has a stack of its own"; \
 	    elif [ -x target/bin/$$name ]; then bench/least-stack target/bin/$$name target/bench/full.hxm; \
-	    else echo "$$name is skipped: rt check $$name builds it"; fi; \
+	    else echo "$$name is skipped: make programs builds it"; fi; \
 	done
 
 # The C programs under the address and undefined-behaviour sanitizers. These see the programs and what they lend, not inside the archive: there valgrind
@@ -161,5 +165,5 @@ sanitize: native $(ARCHIVE)
 	        for file in crates/$$name/stdin $(addprefix target/sanitize/,full cut long empty drive); do \
 	            (set -x; $(VALGRIND) target/bin/$$name <$$file >/dev/null); \
 	        done; \
-	    else echo "$$name is skipped: rt check $$name builds it"; fi; \
+	    else echo "$$name is skipped: make programs builds it"; fi; \
 	done

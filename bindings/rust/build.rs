@@ -10,7 +10,7 @@ fn main() {
     let archive = folder.join("libisnemgul.a");
     assert!(
         archive.is_file(),
-        "{} is not there: run `rt staticlib isnemgul`, or name its folder in ISNEMGUL_LIB_DIR",
+        "{} is not there: run `tools/archive`, or name its folder in ISNEMGUL_LIB_DIR",
         archive.display()
     );
     println!("cargo:rerun-if-changed={}", archive.display());

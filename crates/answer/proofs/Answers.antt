@@ -5,7 +5,7 @@ use mathlib.Core.Path.{◌≡◌, refl, sym, ◌∙◌, subst}
 use mathlib.Core.Bool.{Bool, true, false, not, cond}
 use mathlib.Core.List.{List}
 use lib.Dec.{T}
-use Rattle.answer.specs.Answer.{Answer, answered, refused, and_then, number_of, Leaves, is_one_of, RefusesBy, ZeroTellsAnAnswer}
+use Rattle.answer.specs.Answer.{Answer, answered, refused, and_then, Leaves, is_one_of, RefusesBy, ZeroTellsAnAnswer}
 
 -- ---- two answers that are one
 pub answered_same : {A : Type 0} {v w : A} → answered v ≡ answered w → v ≡ w

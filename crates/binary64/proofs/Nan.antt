@@ -4,9 +4,8 @@ use mathlib.Core.Path.{◌≡◌, refl, sym, ◌∙◌}
 use mathlib.Core.Bool.{true, false}
 use borrow.Author.Tests.{eq-eqb}
 use lib.Dec.{T}
-use lib.Ieee.{Float, nan, inf, fin, up, down, neg, mul, sub, ne, is_nan}
+use lib.Ieee.{Float, nan, inf, fin, up, down, mul, sub, ne, is_nan}
 use Rattle.binary64.specs.Binary64.{◌⊖◌, ◌⊗◌, is_zero}
-use Rattle.binary64.specs.Constants.{ZerosAlone}
 use Rattle.binary64.proofs.Constants.{zeros_alone}
 
 pub is_nan_lem : (x : Float) → T (is_nan x) → x ≡ nan

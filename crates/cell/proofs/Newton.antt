@@ -7,7 +7,7 @@ use mathlib.Core.List.{List}
 use lib.Ieee.{Float}
 use Rattle.answer.specs.Answer.{Answer, answered, refused, and_then, after}
 use Rattle.answer.proofs.Steps.{one_more, stays}
-use Rattle.cell.specs.Newton.{coords, verdict, locate, told, step_told, ToldLosesNothing, StepToldLosesNothing}
+use Rattle.cell.specs.Newton.{coords, verdict, locate, step_told, ToldLosesNothing, StepToldLosesNothing}
 use Rattle.cell.specs.declared.Point.{Point}
 use Rattle.cell.specs.declared.Located.TheVariants.{Inside, Flat, Outside}
 use Rattle.cell.specs.declared.Step.{Step}

@@ -2,15 +2,15 @@
 #![tactic(auto)]
 
 ghost use Rattle.answer.specs.Answer.{Leaves};
-ghost use Rattle.mat3_inverse.specs.Inverse.{told as inverseTold};
+ghost use Rattle.mat3_inverse.specs.Inverse.{told as inverse_told};
 ghost use Rattle.cell.specs.Newton.{told};
-ghost use Rattle.cell.specs.Points.{told as volumeTold};
+ghost use Rattle.cell.specs.Points.{told as volume_told};
 
 use cell::{Located, Measured};
 use mat3_inverse::Inverse;
 
 pub fn put_inverse(found: Inverse, out: &mut [f64; 9]) -> u32
-    ensures { Leaves (inverseTold found) result out.old out.new }
+    ensures { Leaves (inverse_told found) result out.old out.new }
 {
     match found {
         Inverse::Of(a, b, c, d, e, f, g, h, i) => {
@@ -35,7 +35,7 @@ pub fn put_located(found: Located, at: &mut [f64; 3]) -> u32
 }
 
 pub fn put_measured(found: Measured, out: &mut f64) -> u32
-    ensures { Leaves (volumeTold found) result out.old out.new }
+    ensures { Leaves (volume_told found) result out.old out.new }
 {
     match found {
         Measured::Volume(x) => {

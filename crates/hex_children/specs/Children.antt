@@ -1,5 +1,5 @@
 -- The children of a hexahedron, by the places of their corners. Definitions and claims only.
-use Rattle.std.specs.Prelude.{ℕ, ◌+◌, ◌*◌, ◌-◌, ◌<◌, ◌≡◌, Bool, cond, List, [], ◌∷◌, ◌++◌, eqb, ltb, get_or, length}
+use Rattle.std.specs.Prelude.{ℕ, ◌*◌, ◌-◌, ◌<◌, ◌≡◌, Bool, cond, List, [], ◌∷◌, ◌++◌, eqb, ltb, get_or, length}
 use Rattle.numbers.specs.Rule.{tabulate, grid, count, all}
 use Rattle.cell.specs.Middles.{sum_on, node_at, nowhere}
 use Rattle.hexahedron.specs.Cube.{upper, edges, ring}

@@ -1,5 +1,5 @@
 -- The cube: its corners by their signs, and the tables of its edges and faces. Definitions and claims only.
-use Rattle.std.specs.Prelude.{ℕ, ◌+◌, ◌*◌, ◌/◌, ◌%◌, ◌<◌, ◌≡◌, Bool, true, false, ◌&&◌, cond, List, [], ◌∷◌, T, eqb, Float, get_or}
+use Rattle.std.specs.Prelude.{ℕ, ◌+◌, ◌*◌, ◌/◌, ◌%◌, ◌<◌, ◌≡◌, Bool, true, false, cond, List, [], ◌∷◌, T, eqb, Float, get_or}
 use Rattle.std.specs.Bool.{beq}
 use Rattle.std.specs.Float.Ieee.{unlike}
 use Rattle.numbers.specs.Rule.{tabulate, count, all}

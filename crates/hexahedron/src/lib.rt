@@ -31,13 +31,12 @@ pub const EDGE2NODE: [[usize; 2]; 12] = [
 ];
 
 pub const IDX2NODE: [usize; 24] = [
-    0, // face 0, bottom
-    3, 2, 1, 0, // face 1, front
-    1, 5, 4, 1, // face 2, right
-    2, 6, 5, 2, // face 3, back
-    3, 7, 6, 3, // face 4, left
-    0, 4, 7, 4, // face 5, top
-    5, 6, 7,
+    0, 3, 2, 1, // face 0, bottom
+    0, 1, 5, 4, // face 1, front
+    1, 2, 6, 5, // face 2, right
+    2, 3, 7, 6, // face 3, back
+    3, 0, 4, 7, // face 4, left
+    4, 5, 6, 7, // face 5, top
 ];
 
 // The tables as values, so that a contract holds their rows.

@@ -8,25 +8,25 @@ ghost use Rattle.mat3_col_major.specs.Mat3.{transposed, product, det};
 ghost use Rattle.mat3_inverse.specs.Inverse.{inverse};
 ghost use Rattle.hex_shape.specs.Shape as Hex;
 ghost use Rattle.hex_image.specs.Image as HexImage;
-ghost use Rattle.hex_locate.specs.Locate.{inside, located as hexLocated};
+ghost use Rattle.hex_locate.specs.Locate.{inside, located as hex_located};
 ghost use Rattle.hex_gradient.specs.Gradient.{gradient, shape_gradient};
 ghost use Rattle.hex_weighted_gradient.specs.Weighted.{weighted_gradient};
-ghost use Rattle.hex_volume.specs.Volume.{volume as hexVolume};
+ghost use Rattle.hex_volume.specs.Volume.{volume as hex_volume_of};
 ghost use Rattle.hex_iso_mask.specs.Cut.{iso_mask};
 ghost use Rattle.hex_iso_position.specs.Position.{iso_position};
 ghost use Rattle.hex_iso.specs.Edges.{iso_edges};
-ghost use Rattle.hex_children.specs.Children.{children as hexChildren};
+ghost use Rattle.hex_children.specs.Children.{children as hex_children_of};
 ghost use Rattle.probe.specs.Check.{checked, located_checked};
 ghost use Rattle.probe.specs.Demand.{AcceptedIsNear, NearIsAccepted};
 ghost use Rattle.proposals.specs.Judgements.{judgements, zeros_in};
 ghost use Rattle.proposals.specs.Demand.{ZeroIsNear, NearIsZero, Each};
 ghost use Rattle.prism_shape.specs.Shape as Prism;
 ghost use Rattle.prism_image.specs.Image as PrismImage;
-ghost use Rattle.prism_locate.specs.Locate.{located as prismLocated};
-ghost use Rattle.prism_volume.specs.Volume.{volume_answer as prismVolume};
-ghost use Rattle.prism_children.specs.Children.{children as prismChildren};
+ghost use Rattle.prism_locate.specs.Locate.{located as prism_located};
+ghost use Rattle.prism_volume.specs.Volume.{volume_answer as prism_volume_of};
+ghost use Rattle.prism_children.specs.Children.{children as prism_children_of};
 ghost use Rattle.descendant.specs.Place.{descended};
-ghost use Rattle.hxm.specs.Reads.{counts as countsOf, coords_of, corners_of, mesh_into};
+ghost use Rattle.hxm.specs.Reads.{counts as counts_of, coords_of, corners_of, mesh_into};
 ghost use Rattle.hxm_write.specs.Writes.{length_of, file_into};
 ghost use Rattle.volume_report.specs.Report.{report_into, volumes_in};
 ghost use Rattle.volume_report.specs.Told.{summary_of, total_told, counts_told};
@@ -157,14 +157,14 @@ pub extern "C" fn isn_hex_grad_shapefunc(
 
 #[unsafe(no_mangle)]
 pub extern "C" fn isn_hex_volume(corners: &[f64; 24], points: &[f64], out: &mut f64) -> u32
-    ensures { Leaves (hexVolume corners.now points.now) result out.old out.new }
+    ensures { Leaves (hex_volume_of corners.now points.now) result out.old out.new }
 {
     cell_answers::put_measured(hex_volume::volume(*corners, points), out)
 }
 
 #[unsafe(no_mangle)]
 pub extern "C" fn isn_hex_parametric_coord_for_origin(corners: &[f64; 24], at: &mut [f64; 3]) -> u32
-    ensures { Leaves (hexLocated corners.now) result at.old at.new }
+    ensures { Leaves (hex_located corners.now) result at.old at.new }
 {
     cell_answers::put_located(hex_locate::newton(corners), at)
 }
@@ -217,7 +217,7 @@ pub extern "C" fn isn_hex_subdivide(
     center: u32,
     out: &mut [u32; 64],
 ) -> u32
-    ensures { (result ≡ 0) × (out.new ≡ hexChildren corner.now edge.now quad.now center) }
+    ensures { (result ≡ 0) × (out.new ≡ hex_children_of corner.now edge.now quad.now center) }
 {
     *out = hex_children::subdivide(*corner, *edge, *quad, center);
     0
@@ -245,7 +245,7 @@ pub extern "C" fn isn_hex_locate_checked(
 ) -> u32
     ensures leaves { Leaves (located_checked corners.now tolerance) result at.old at.new }
     ensures sound { AcceptedIsNear (result ≡ 0) corners.now at.new tolerance }
-    ensures complete { (q : List Float) → hexLocated corners.now ≡ answered q
+    ensures complete { (q : List Float) → hex_located corners.now ≡ answered q
         → NearIsAccepted ((result ≡ 0) × (at.new ≡ q)) corners.now q tolerance }
 {
     probe_answers::put_checked(probe::locate_checked(*corners, tolerance), at)
@@ -298,7 +298,7 @@ pub extern "C" fn isn_prism_volume(
     triangle: &[f64],
     out: &mut f64,
 ) -> u32
-    ensures { Leaves (prismVolume corners.now line.now triangle.now) result out.old out.new }
+    ensures { Leaves (prism_volume_of corners.now line.now triangle.now) result out.old out.new }
 {
     cell_answers::put_measured(prism_volume::volume(*corners, line, triangle), out)
 }
@@ -308,7 +308,7 @@ pub extern "C" fn isn_prism_parametric_coord_for_origin(
     corners: &[f64; 18],
     at: &mut [f64; 3],
 ) -> u32
-    ensures { Leaves (prismLocated corners.now) result at.old at.new }
+    ensures { Leaves (prism_located corners.now) result at.old at.new }
 {
     cell_answers::put_located(prism_locate::parametric_coord_for_origin(*corners), at)
 }
@@ -320,7 +320,7 @@ pub extern "C" fn isn_prism_subdivide(
     quad: &[u32; 3],
     out: &mut [u32; 48],
 ) -> u32
-    ensures { (result ≡ 0) × (out.new ≡ prismChildren corner.now edge.now quad.now) }
+    ensures { (result ≡ 0) × (out.new ≡ prism_children_of corner.now edge.now quad.now) }
 {
     *out = prism_children::subdivide(*corner, *edge, *quad);
     0
@@ -349,7 +349,7 @@ pub extern "C" fn isn_hxm_read(
     cells: &mut [u32],
     counts: &mut [u32; 2],
 ) -> u32
-    ensures answer { Leaves (countsOf (mesh_into (length nodes.old) (length cells.old) bytes.now)) result
+    ensures answer { Leaves (counts_of (mesh_into (length nodes.old) (length cells.old) bytes.now)) result
         counts.old counts.new }
     ensures coords { nodes.new ≡ left (coords_of (mesh_into (length nodes.old) (length cells.old) bytes.now))
         nodes.old }

@@ -6,7 +6,6 @@ ghost use Rattle.std.specs.Prelude.{◌≡◌, true, ◌<◌};
 ghost use Rattle.hex_iso_mask.specs.Cut.{mask_of};
 
 use hex_iso_mask::IsoMask;
-use libc::STDOUT_FILENO;
 
 // For each sign index the mask of the edges that are cut.
 const ISO_EDGE: [u32; 256] = [
@@ -78,47 +77,55 @@ fn first_other() -> u32
     index
 }
 
-fn say_hex(mask: u32) {
-    io::write_all(STDOUT_FILENO, b"0x");
-    io::print_hex(STDOUT_FILENO, mask as u64, 1);
+// Prints a text. An output that cannot be written is left as it is.
+fn put(rt: &impl Print, text: &[u8]) {
+    let _ = rt.write_all(text);
 }
 
-fn say_answer(index: u32) {
-    io::print_decimal(STDOUT_FILENO, index as u64);
+fn put_number(rt: &impl Print, number: u32) {
+    let _ = print!(rt; "{number}");
+}
+
+fn say_hex(rt: &impl Print, mask: u32) {
+    let _ = print!(rt; "{mask:#x}");
+}
+
+fn say_answer(rt: &impl Print, index: u32) {
+    put_number(rt, index);
     match hex_iso_mask::iso_mask(index) {
         IsoMask::Mask(mask) => {
-            io::write_all(STDOUT_FILENO, b" is ");
-            say_hex(mask);
+            put(rt, b" is ");
+            say_hex(rt, mask);
         }
         IsoMask::Refused(number) => {
-            io::write_all(STDOUT_FILENO, b" refused ");
-            io::print_decimal(STDOUT_FILENO, number as u64);
+            put(rt, b" refused ");
+            put_number(rt, number);
         }
     }
 }
 
-fn end_line() {
-    io::write_all(STDOUT_FILENO, b"\n");
+fn end_line(rt: &impl Print) {
+    put(rt, b"\n");
 }
 
-fn say_other(index: u32)
+fn say_other(rt: &impl Print, index: u32)
     requires { index < 256 }
 {
-    say_answer(index);
-    io::write_all(STDOUT_FILENO, b", in the table ");
-    say_hex(iso_edge(index));
-    end_line();
+    say_answer(rt, index);
+    put(rt, b", in the table ");
+    say_hex(rt, iso_edge(index));
+    end_line(rt);
 }
 
-fn main() {
+fn main(rt: HostRuntime) {
     let index = first_other();
     if index < 256 {
-        say_other(index);
+        say_other(&rt, index);
     } else {
-        io::write_all(STDOUT_FILENO, b"256 masks as in the table\n");
+        put(&rt, b"256 masks as in the table\n");
     }
-    say_answer(256);
-    end_line();
-    say_answer(4294967295);
-    end_line();
+    say_answer(&rt, 256);
+    end_line(&rt);
+    say_answer(&rt, 4294967295);
+    end_line(&rt);
 }

@@ -7,10 +7,10 @@ use mathlib.Core.Path.{◌≡◌, refl, sym, ap, ◌∙◌}
 use mathlib.Core.Bool.{Bool, true, false, ◌||◌, not, or-true}
 use mathlib.Core.List.{List, [], ◌∷◌}
 use borrow.Author.Tests.{eq-eqb, eqb-true, eqb-false, ltb-true, ltb-false}
-use lib.Dec.{T, eqb, ltb, T_not}
+use lib.Dec.{T, eqb, ltb}
 use mathlib.Core.Logic.{inl, inr, ⊎_elim}
 use lib.ListN.{length, get_or}
-use Rattle.numbers.proofs.Cases.{cases, never, passes, is_false, fails}
+use Rattle.numbers.proofs.Cases.{cases, never, is_false, fails}
 use Rattle.numbers.proofs.Every.{Every}
 use Rattle.numbers.proofs.Tabulate.{tabulate_back}
 use Rattle.numbers.proofs.Tests.{first, second}

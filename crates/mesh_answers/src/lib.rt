@@ -3,11 +3,11 @@
 #![tactic(auto)]
 
 ghost use Rattle.answer.specs.Answer.{Leaves};
-ghost use Rattle.descendant.specs.Place.{told as descendedTold};
-ghost use Rattle.hxm.specs.Reads.{told as readingTold};
-ghost use Rattle.hxm_write.specs.Writes.{told as writingTold};
-ghost use Rattle.refine.specs.Refine.{told as refinedTold};
-ghost use Rattle.volume_report.specs.Told.{told as reportedTold, total_told, counts_told};
+ghost use Rattle.descendant.specs.Place.{told as descended_told};
+ghost use Rattle.hxm.specs.Reads.{told as reading_told};
+ghost use Rattle.hxm_write.specs.Writes.{told as writing_told};
+ghost use Rattle.refine.specs.Refine.{told as refined_told};
+ghost use Rattle.volume_report.specs.Told.{told as reported_told, total_told, counts_told};
 
 use descendant::Descended;
 use hxm::Reading;
@@ -16,7 +16,7 @@ use refine::Refined;
 use volume_report::Reported;
 
 pub fn put_descended(found: Descended, out: &mut [i32; 3]) -> u32
-    ensures { Leaves (descendedTold found) result out.old out.new }
+    ensures { Leaves (descended_told found) result out.old out.new }
 {
     match found {
         Descended::At(x, y, z) => {
@@ -28,7 +28,7 @@ pub fn put_descended(found: Descended, out: &mut [i32; 3]) -> u32
 }
 
 pub fn put_refined(found: Refined, next: &mut u32) -> u32
-    ensures { Leaves (refinedTold found) result next.old next.new }
+    ensures { Leaves (refined_told found) result next.old next.new }
 {
     match found {
         Refined::Next(free) => {
@@ -40,7 +40,7 @@ pub fn put_refined(found: Refined, next: &mut u32) -> u32
 }
 
 pub fn put_reading(found: Reading, counts: &mut [u32; 2]) -> u32
-    ensures { Leaves (readingTold found) result counts.old counts.new }
+    ensures { Leaves (reading_told found) result counts.old counts.new }
 {
     match found {
         Reading::Mesh(nodes, cells) => {
@@ -52,7 +52,7 @@ pub fn put_reading(found: Reading, counts: &mut [u32; 2]) -> u32
 }
 
 pub fn put_writing(found: Writing, length: &mut u32) -> u32
-    ensures { Leaves (writingTold found) result length.old length.new }
+    ensures { Leaves (writing_told found) result length.old length.new }
 {
     match found {
         Writing::Length(bytes) => {
@@ -64,8 +64,8 @@ pub fn put_writing(found: Writing, length: &mut u32) -> u32
 }
 
 pub fn put_reported(found: Reported, total: &mut i64, counts: &mut [u32; 2]) -> u32
-    ensures sum { Leaves (total_told (reportedTold found)) result total.old total.new }
-    ensures cells { Leaves (counts_told (reportedTold found)) result counts.old counts.new }
+    ensures sum { Leaves (total_told (reported_told found)) result total.old total.new }
+    ensures cells { Leaves (counts_told (reported_told found)) result counts.old counts.new }
 {
     match found {
         Reported::Volumes(sum, cells, first) => {

@@ -5,7 +5,7 @@ use native.Mathlib.Nat.{le_of_suc-le-suc, not-suc-le-zero}
 use native.Mathlib.Omega.{arith}
 use mathlib.Core.Path.{◌≡◌, refl, sym, ap, ap₂, ◌∙◌}
 use mathlib.Core.Bool.{Bool, true, false, ◌&&◌, ◌||◌, not, cond}
-use mathlib.Core.List.{List, [], ◌∷◌, map}
+use mathlib.Core.List.{List, [], ◌∷◌}
 use borrow.Author.Tests.{eq-eqb, eqb-true}
 use lib.Dec.{T, eqb, eqb→eq, ltb, ltb→lt}
 use lib.ListN.{length, get_or}
@@ -17,7 +17,7 @@ use Rattle.numbers.proofs.FirstMet.{place_below, place_holds}
 use Rattle.numbers.proofs.Tabulate.{tabulate_at}
 use Rattle.numbers.proofs.Tests.{first, second, all_at, all_at_pair}
 use Rattle.numbering.specs.Refinement.{within, same_members, same_nodes, turned, agree, same_ring}
-use Rattle.numbering.specs.Rings.{Four, side, sides, shared_sides, order, three_rings, RingsBySides, TwistedTears}
+use Rattle.numbering.specs.Rings.{Four, side, sides, shared_sides, order, RingsBySides, TwistedTears}
 use Rattle.numbering.proofs.Cells.{eqb_map}
 use Rattle.numbering.proofs.Same.{among_at, members, same_nodes_lem, around, all_within, ring_nodes, is_round}
 use Rattle.numbering.proofs.Steps.{tabulate_found}

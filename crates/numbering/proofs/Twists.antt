@@ -1,6 +1,6 @@
 -- A mesh is twisted where two of its faces are; where none are, rings and nodes tell the same of its faces, so that all that is numbered is numbered alike, and
 -- a face that two cells have is cut into the same quarters. Assumes nothing.
-use Prim.Native.Nat.{ℕ, zero, suc, ◌+◌, ◌*◌, ◌%◌, ◌<◌}
+use Prim.Native.Nat.{ℕ, zero, suc, ◌+◌, ◌%◌, ◌<◌}
 use native.Mathlib.Nat.{mod-lt, mod-mod, mod-eq_of_lt, eq-or-lt_of_le, le_of_suc-le-suc}
 use native.Mathlib.Omega.{arith}
 use mathlib.Core.Path.{◌≡◌, refl, sym, ap, ap₂, ◌∙◌}
@@ -9,9 +9,9 @@ use mathlib.Core.List.{List, [], ◌∷◌, ◌++◌, map}
 use mathlib.Core.Logic.{⊎_elim}
 use lib.Dec.{T, eqb, eqb→eq}
 use lib.ListN.{length, get_or}
-use Rattle.numbers.specs.Rule.{tabulate, all, place_of}
+use Rattle.numbers.specs.Rule.{tabulate, place_of}
 use Rattle.numbers.specs.FirstMet.{among, apart}
-use Rattle.numbers.proofs.Cases.{cases, never, is_true, is_false, passes}
+use Rattle.numbers.proofs.Cases.{never, is_true, is_false, passes}
 use Rattle.numbers.proofs.Every.{Every, every_append, every_front, every_behind, every_tabulate, every_at, every_then}
 use Rattle.numbers.proofs.FirstMet.{place_agree, meet_agree, apart_none, none_apart}
 use Rattle.numbers.proofs.Tests.{first, second, all_at_pair}

@@ -1,5 +1,5 @@
 -- What a user may count on of rings and of meshes without a twisted face: document 02, 2/12. Definitions and claims only.
-use Rattle.std.specs.Prelude.{ℕ, ◌+◌, ◌%◌, ◌<◌, ◌≡◌, Bool, true, false, List, [], ◌∷◌, map, ◌↔◌, T, eqb, length, get_or}
+use Rattle.std.specs.Prelude.{ℕ, ◌+◌, ◌%◌, ◌<◌, ◌≡◌, Bool, false, List, [], ◌∷◌, map, ◌↔◌, T, eqb, length, get_or}
 use Rattle.numbers.specs.Rule.{tabulate, count}
 use Rattle.numbers.specs.FirstMet.{among, apart}
 use Rattle.numbering.specs.Interface.{child_face}

@@ -4,14 +4,14 @@
 
 ghost use Rattle.std.specs.Prelude.{◌≡◌};
 ghost use Rattle.answer.specs.Answer.{Leaves, number_of};
-ghost use Rattle.probe.specs.Check.{told as verdictTold, place_told};
-ghost use Rattle.proposals.specs.Judgements.{told as judgedTold};
+ghost use Rattle.probe.specs.Check.{told as verdict_told, place_told};
+ghost use Rattle.proposals.specs.Judgements.{told as judged_told};
 
 use probe::{Checked, Verdict};
 use proposals::Judged;
 
 pub fn put_verdict(found: Verdict) -> u32
-    ensures { result ≡ number_of (verdictTold found) }
+    ensures { result ≡ number_of (verdict_told found) }
 {
     match found {
         Verdict::Accepted => 0,
@@ -32,7 +32,7 @@ pub fn put_checked(found: Checked, at: &mut [f64; 3]) -> u32
 }
 
 pub fn put_judged(found: Judged, accepted: &mut u32) -> u32
-    ensures { Leaves (judgedTold found) result accepted.old accepted.new }
+    ensures { Leaves (judged_told found) result accepted.old accepted.new }
 {
     match found {
         Judged::Accepted(n) => {

@@ -4,8 +4,8 @@ use Prim.Native.Nat.{ℕ, ◌+◌, ◌*◌, ◌-◌, ◌/◌, ◌%◌, ◌≤◌
 use native.Mathlib.Nat.{mod-lt}
 use native.Mathlib.Omega.{arith}
 use mathlib.Core.Path.{◌≡◌, refl, sym, ap, ◌∙◌}
-use mathlib.Core.Bool.{Bool, true, false, ◌&&◌, not, or-true}
-use mathlib.Core.List.{List, [], ◌∷◌, ◌++◌}
+use mathlib.Core.Bool.{Bool, true, false, not}
+use mathlib.Core.List.{List}
 use borrow.Author.Tests.{eq-eqb, eqb-true, eqb-false}
 use lib.Dec.{eqb}
 use lib.ListN.{length, get_or, set}
@@ -13,12 +13,11 @@ use lib.Seq.{get_or-set_same, get_or-set_other}
 use Rattle.numbers.specs.Rule.{all}
 use Rattle.numbers.specs.FirstMet.{among}
 use Rattle.numbers.proofs.All.{left_true, right_true, all_each, all_where}
-use Rattle.numbers.proofs.Cases.{cases, never, is_true, is_false, passes}
-use Rattle.numbers.proofs.FirstMet.{among_append}
+use Rattle.numbers.proofs.Cases.{cases, never, is_false}
 use Rattle.numbers.proofs.Slots.{slot_row, slot_place, row_of, row_within}
 use Rattle.faults.specs.Faults.{node, Sound}
-use Rattle.numbering.specs.Refinement.{Thing, face, same_nodes, same_ring, same_by, same, twist, twisted, cell_count, face_nodes, face_of}
-use Rattle.numbering.specs.Refinement.{edges_of, faces_of, things_of, things, number_by, next_by}
+use Rattle.numbering.specs.Refinement.{face, same_nodes, same_ring, same_by, twist, twisted, cell_count, face_nodes, face_of}
+use Rattle.numbering.specs.Refinement.{faces_of, things_of, things, number_by, next_by}
 use Rattle.numbering.specs.Rings.{Four}
 use Rattle.numbering.proofs.Cells.{face_nodes_lem}
 use Rattle.numbering.proofs.Same.{same_nodes_lem}

@@ -1,7 +1,6 @@
 -- `buffer::put_bytes` meets its contract: where there is room for it, the text is stored. Assumes nothing.
 use native.Mathlib.Omega.{arith}
 use mathlib.Core.Path.{refl}
-use borrow.Author.Rules.{rules}
 use lib.ListN.{length}
 use Rattle.buffer.proofs.Writing.{puts_nothing, puts_written, fits_below}
 use Rattle.buffer.proofs.put_bytes.Goals as goal

@@ -1,6 +1,5 @@
 -- `buffer::put_u16` meets its contract: where there is room for it, the number is stored. Assumes nothing.
 use native.Mathlib.Omega.{arith}
-use borrow.Author.Rules.{rules}
 use lib.ListN.{length}
 use Rattle.numbers.proofs.Little.{length_bytes}
 use Rattle.buffer.proofs.Writing.{puts_nothing, puts_written, fits_below}

@@ -1,5 +1,4 @@
 -- `buffer::put_u32` meets its contract: it is a list of one. Assumes nothing.
-use borrow.Author.Rules.{rules}
 use Rattle.numbers.proofs.Little.{all_bytes_one}
 use Rattle.buffer.proofs.Writing.{puts_as}
 use Rattle.buffer.proofs.put_u32.Goals as goal

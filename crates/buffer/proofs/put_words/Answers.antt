@@ -1,7 +1,6 @@
 -- `buffer::put_words` meets its contract: where there is room for all of them, the words are stored. Assumes nothing.
 use Prim.Native.Nat.{◌*◌}
 use native.Mathlib.Omega.{arith}
-use borrow.Author.Rules.{rules}
 use lib.ListN.{length}
 use Rattle.numbers.proofs.Little.{length_all_bytes}
 use Rattle.buffer.proofs.Writing.{puts_nothing, puts_written, fits_below}

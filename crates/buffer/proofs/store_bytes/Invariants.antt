@@ -1,13 +1,7 @@
 -- `buffer::store_bytes` meets its contract: the first i bytes are written. Assumes nothing.
 use Prim.Native.Nat.{◌+◌, ◌-◌, ◌≤◌}
-use native.Mathlib.Numerals.{add-one}
-use native.Mathlib.Omega.{arith}
-use mathlib.Core.Path.{◌≡◌, sym}
-use mathlib.Core.List.{[], ◌∷◌, ◌++◌}
-use lib.ListN.{length, get_or, take}
-use lib.Seq.{take-suc, take-length}
+use lib.ListN.{length, take}
 use Rattle.buffer.specs.Put.{Wrote}
-use Rattle.buffer.proofs.Writing.{wrote_none, wrote_on, wrote_as}
 use Rattle.buffer.proofs.store_bytes.Given as goal
 
 abbrev pub invariant-loop-i : goal.invariant-loop-i

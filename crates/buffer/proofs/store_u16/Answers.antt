@@ -1,7 +1,6 @@
 -- `buffer::store_u16` meets its contract: two bytes, the low one first. Assumes nothing.
 use native.Mathlib.Omega.{arith}
 use mathlib.Core.Path.{sym}
-use borrow.Author.Rules.{rules}
 use Rattle.numbers.proofs.Little.{bytes_halves, byte_is}
 use Rattle.buffer.proofs.Writing.{wrote_as, wrote_on}
 use Rattle.buffer.proofs.store_u16.Goals as goal

@@ -1,6 +1,5 @@
 -- `buffer::store_u64` meets its contract: two numbers of four bytes each, the low one first. Assumes nothing.
 use native.Mathlib.Omega.{arith}
-use borrow.Author.Rules.{rules}
 use Rattle.numbers.proofs.Little.{bytes_halves}
 use Rattle.buffer.proofs.Writing.{wrote_on}
 use Rattle.buffer.proofs.store_u64.Goals as goal

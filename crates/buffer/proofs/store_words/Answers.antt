@@ -1,8 +1,6 @@
 -- `buffer::store_words` meets its contract: the first i words are written. Assumes nothing.
-use Prim.Native.Nat.{◌-◌}
 use native.Mathlib.Omega.{arith}
-use lib.ListN.{length}
-use Rattle.buffer.proofs.Writing.{Laid, laid_none, laid_more, laid_all}
+use Rattle.buffer.proofs.Writing.{laid_none, laid_more, laid_all}
 use Rattle.buffer.proofs.store_words.Goals as goal
 
 pub loop-i-preserved : goal.loop-i-preserved

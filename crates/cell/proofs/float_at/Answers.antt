@@ -2,7 +2,6 @@
 use mathlib.Core.Path.{sym}
 use lib.Ieee.{nan, div, of_bits}
 use lib.ListN.{get_or-eq_default}
-use borrow.Author.Rules.{rules}
 use Rattle.cell.proofs.float_at.Goals as goal
 
 pub returns-else-k-l : goal.returns-else-k-l

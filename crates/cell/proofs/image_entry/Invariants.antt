@@ -1,10 +1,7 @@
 -- `cell::image_entry` meets its contract: a turn adds one corner to the sum. Assumes nothing.
 use Prim.Native.Nat.{◌-◌, ◌≤◌, ◌<◌}
-use native.Mathlib.Omega.{arith}
 use mathlib.Core.Path.{◌≡◌}
-use borrow.Author.Rules.{rules}
 use Rattle.cell.specs.Image.{image_on}
-use Rattle.cell.proofs.Image.{image_more}
 use Rattle.cell.proofs.image_entry.Given as goal
 
 abbrev pub invariant-loop-inode : goal.invariant-loop-inode

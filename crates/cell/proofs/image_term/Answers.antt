@@ -1,5 +1,4 @@
 -- `cell::image_term` meets its contract: the product of what its two calls read. Assumes nothing.
-use borrow.Author.Rules.{rules}
 use Rattle.cell.proofs.image_term.Goals as goal
 
 pub returns : goal.returns

@@ -1,10 +1,7 @@
 -- `cell::jacobian_entry` meets its contract: a turn adds one corner to the sum. Assumes nothing.
 use Prim.Native.Nat.{◌-◌, ◌≤◌}
-use native.Mathlib.Omega.{arith}
-use mathlib.Core.Path.{◌≡◌, refl}
-use borrow.Author.Rules.{rules}
+use mathlib.Core.Path.{◌≡◌}
 use Rattle.cell.specs.Image.{jacobian_on}
-use Rattle.cell.proofs.Image.{jacobian_more}
 use Rattle.cell.proofs.jacobian_entry.Given as goal
 
 abbrev pub invariant-loop-inode : goal.invariant-loop-inode

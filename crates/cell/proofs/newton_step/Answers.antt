@@ -1,5 +1,4 @@
 -- `cell::newton_step` meets its contract: the step by the inverse, where there is one. Assumes nothing.
-use borrow.Author.Rules.{rules}
 use Rattle.cell.proofs.newton_step.Goals as goal
 
 pub returns-in-Of : goal.returns-in-Of

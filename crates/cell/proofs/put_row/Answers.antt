@@ -1,6 +1,5 @@
 -- `cell::put_row` meets its contract: its test and its three stores are the definition's. Assumes nothing.
 use native.Mathlib.Nat.{add-zero}
-use borrow.Author.Rules.{rules}
 use borrow.Author.Tests.{lt-ltb, le-ltb}
 use Rattle.cell.proofs.put_row.Goals as goal
 

@@ -1,5 +1,4 @@
 -- `mat3_col_major::determinant_at` meets its contract: its six products are those of the definition. Assumes nothing.
-use borrow.Author.Rules.{rules}
 use Rattle.mat3_col_major.proofs.determinant_at.Goals as goal
 
 pub returns : goal.returns

@@ -3,7 +3,6 @@ use Prim.Native.Nat.{ℕ}
 use mathlib.Core.Path.{◌≡◌}
 use mathlib.Core.List.{List, [], ◌∷◌}
 use lib.Ieee.{Float, binary64}
-use native.Mathlib.Omega.{arith}
 use Rattle.binary64.specs.Binary64.{◌⊖◌, ◌⊗◌, ◌!◌}
 use Rattle.binary64.proofs.Commutes.{mul_commutes}
 use Rattle.mat3_inverse.specs.Inverse.{scaled_cofactors}

@@ -1,5 +1,4 @@
 -- `mat3_inverse::try_inverse` meets its contract: the test is the definition's, and the nine floats are `scaled_cofactors`'. Assumes nothing.
-use native.Mathlib.Omega.{arith}
 use Rattle.mat3_inverse.specs.Inverse.{inverse}
 use Rattle.mat3_inverse.proofs.try_inverse.Goals as goal
 
