@@ -4,21 +4,17 @@ use mathlib.Core.Path.{◌≡◌, refl}
 use mathlib.Core.Bool.{Bool, true, false, ◌||◌, cond}
 use Rattle.answer.specs.Answer.{answered, refused}
 use Rattle.proposals.specs.Turns.{or_none, turns_of}
-use Rattle.proposals.proofs.turns.Statement.{statement}
-use Rattle.proposals.proofs.turns.Tie as tie
+use Rattle.proposals.proofs.turns.Goals as goal
 
 one_test : (n : ℕ) (long short : Bool) → cond (long || short) 0 n ≡ or_none (cond long (refused 7) (cond short (refused 8) (answered n)))
 one_test n true short = refl
 one_test n false true = refl
 one_test n false false = refl
 
-returns : tie.Need-returns
+pub returns-then-n-room : goal.returns-then-n-room
 unfolding turns_of
-returns c = simp (← one_test, c.if1.true)
+returns-then-n-room c = simp (← one_test, c.if-n-room.true)
 
-returns_2 : tie.Need-returns-2
+pub returns-else-n-room : goal.returns-else-n-room
 unfolding turns_of
-returns_2 c = simp (← one_test, c.if1.false)
-
-pub turns_spec : {M : Type 1} → statement M
-turns_spec = tie.close (tie.spec returns returns_2)
+returns-else-n-room c = simp (← one_test, c.if-n-room.false)
