@@ -12,7 +12,7 @@ use mat3_inverse::Inverse;
 
 // A place in a cell, or a point in space.
 #[repr(C)]
-#[derive(Drop)]
+#[derive(Clone, Copy)]
 pub struct Point {
     pub x: f64,
     pub y: f64,

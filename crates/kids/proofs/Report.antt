@@ -3,7 +3,7 @@ use Prim.Native.Nat.{ℕ, zero, suc, ◌+◌, ◌*◌, ◌≤◌, ◌<◌}
 use native.Mathlib.Omega.{arith}
 use mathlib.Core.Path.{◌≡◌, refl, sym, ◌∙◌, ap, ap₂}
 use mathlib.Core.List.{List, [], ◌∷◌, ◌++◌}
-use lib.ListN.{length, get_or, drop, get_or-append}
+use lib.ListN.{length, drop, get_or-append}
 use Rattle.numbers.proofs.Slots.{row_within}
 use Rattle.answer.specs.Answer.{Answer, answered, refused, left}
 use Rattle.hxm.specs.Format.{node_count, mesh_at, mesh_of}

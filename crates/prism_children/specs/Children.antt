@@ -1,5 +1,5 @@
 -- The children of a prism, by the places of their corners. Definitions and claims only.
-use Rattle.std.specs.Prelude.{ℕ, suc, ◌+◌, ◌-◌, ◌*◌, ◌/◌, ◌%◌, ◌<◌, ◌≡◌, cond, List, [], ◌∷◌, ◌++◌, eqb, ltb, get_or}
+use Rattle.std.specs.Prelude.{ℕ, suc, ◌+◌, ◌-◌, ◌/◌, ◌%◌, ◌<◌, ◌≡◌, cond, List, [], ◌∷◌, ◌++◌, eqb, ltb, get_or}
 use Rattle.numbers.specs.Rule.{tabulate, grid, count}
 use Rattle.cell.specs.Middles.{same_middle, node_at, nowhere}
 use Rattle.prism.specs.Wedge.{column, level, edges}

@@ -8,9 +8,7 @@ use Rattle.answer.specs.Answer.{Answer, answered, refused, and_then, LosesNothin
 use Rattle.hex_image.specs.Image.{image_at}
 use Rattle.hex_locate.specs.Locate.{inside, located}
 use Rattle.probe.specs.declared.Verdict.{Verdict}
-use Rattle.probe.specs.declared.Verdict.TheVariants as Verdict
 use Rattle.probe.specs.declared.Checked.{Checked}
-use Rattle.probe.specs.declared.Checked.TheVariants as Checked
 
 -- 2 ^ -100 and 2 ^ 100
 abbrev pub least : Float

@@ -1,22 +1,18 @@
 -- What a loop that writes and counts judgements has done after k turns, and after the last. Assumes nothing.
-use Prim.Native.Nat.{ℕ, zero, suc, ◌+◌, ◌*◌, ◌≤◌, ◌<◌, ◌^◌, zero-le}
-use native.Mathlib.Nat.{le_refl, le_of_lt, lt_trans, lt_of_le_of_lt, mul-le-mul_right, zero-add, not-suc-le-zero, le_of_suc-le-suc}
+use Prim.Native.Nat.{ℕ, zero, suc, ◌+◌, ◌≤◌, ◌<◌, ◌^◌, zero-le}
+use native.Mathlib.Nat.{le_refl, zero-add, not-suc-le-zero, le_of_suc-le-suc}
 use native.Mathlib.Numerals.{add-one}
 use native.Mathlib.Omega.{arith}
 use mathlib.Core.Path.{◌≡◌, refl, sym, ◌∙◌}
-use mathlib.Core.Bool.{Bool, true, false, not, cond}
+use mathlib.Core.Bool.{Bool, true, false, cond}
 use mathlib.Core.List.{List, [], ◌∷◌, ◌++◌, map}
-use lib.Dec.{T, eqb, ltb, lit<}
+use lib.Dec.{eqb, ltb}
 use lib.ListN.{length, get_or, set, take, drop, length-map, get_or-map}
 use lib.Seq.{length-take-le, length_front, take-length, paste-suc}
-use borrow.Author.Tests.{ltb-false}
+use borrow.Author.Tests.{ltb-false, eq-eqb, ne_eqb}
 use Rattle.answer.specs.Answer.{left}
 use Rattle.proposals.specs.Judgements.{unless_refused, zeros, zeros_in}
 use Rattle.proposals.specs.Turns.{turns_of}
-
--- the place of element i, in bytes, is a usize
-pub place_fits : (i n size : ℕ) → i < n → n * size < 2 ^ 63 → i * size < 2 ^ 64
-place_fits i n size below room = lt_of_le_of_lt (mul-le-mul_right size (le_of_lt below)) (lt_trans room (lit< tt))
 
 -- a list is too long, or its output is too short, or it is judged
 pub ladder : {P : Type 0} (n room : ℕ) → ((short : Bool) → ltb 256 n ≡ true → ltb room n ≡ short → P)
@@ -60,14 +56,6 @@ counted_more [] k d inside = absurd (not-suc-le-zero inside)
 counted_more (j ∷ js) zero d inside = omega arith
 counted_more (j ∷ js) (suc k) d inside = omega (arith, counted_more js k d (le_of_suc-le-suc inside))
 
-one_if : (b : Bool) (m : ℕ) {n : ℕ} → T b → m + cond b 1 0 ≡ n → m + 1 ≡ n
-one_if true m t e = e
-one_if false m t e = absurd t
-
-none_unless : (b : Bool) (m : ℕ) {n : ℕ} → T (not b) → m + cond b 1 0 ≡ n → m ≡ n
-none_unless true m t e = absurd t
-none_unless false m t e = omega arith
-
 one_or_none : (b : Bool) → cond b 1 0 ≤ 1
 one_or_none true = le_refl 1
 one_or_none false = zero-le
@@ -89,11 +77,11 @@ module _ {A : Type 0} (f : A → ℕ) (xs : List A) (d : A) (k : ℕ) (inside : 
   one_more_counted : zeros (take k (map f xs)) + cond (eqb (f (get_or xs k d)) 0) 1 0 ≡ zeros (take (k + 1) (map f xs))
   one_more_counted = rw (← get_or-map f xs k d, add-one) (counted_more (map f xs) k (f d) (rw length-map inside))
 
-  pub zero_counted : T (eqb (f (get_or xs k d)) 0) → zeros (take k (map f xs)) + 1 ≡ zeros (take (k + 1) (map f xs))
-  zero_counted t = one_if (eqb (f (get_or xs k d)) 0) _ t one_more_counted
+  pub zero_counted : f (get_or xs k d) ≡ 0 → zeros (take k (map f xs)) + 1 ≡ zeros (take (k + 1) (map f xs))
+  zero_counted e = rw (eq-eqb (f (get_or xs k d)) 0 e) at one_more_counted
 
-  pub none_counted : T (not (eqb (f (get_or xs k d)) 0)) → zeros (take k (map f xs)) ≡ zeros (take (k + 1) (map f xs))
-  none_counted t = none_unless (eqb (f (get_or xs k d)) 0) _ t one_more_counted
+  pub none_counted : (f (get_or xs k d) ≡ 0 → ⊥) → zeros (take k (map f xs)) ≡ zeros (take (k + 1) (map f xs))
+  none_counted e = omega (arith, rw (ne_eqb (f (get_or xs k d)) 0 e) at one_more_counted)
 
 module _ (n room : ℕ) (js : List ℕ) (all : length js ≡ n) where
   all_taken : take n js ≡ js

@@ -12,7 +12,7 @@ use probe::Verdict;
 
 // A proposed place, and how far its image may be from the probe on each axis.
 #[repr(C)]
-#[derive(Drop)]
+#[derive(Clone, Copy)]
 pub struct Proposal {
     pub at: Point,
     pub tolerance: f64,
@@ -27,7 +27,9 @@ pub enum Judged {
 
 // 0, or the number by which the check refuses.
 fn judge(corners: [f64; 24], p: Proposal) -> u32
-    ensures { result ≡ judgement corners p }
+    ensures value { result ≡ judgement corners p }
+    ensures sound { ZeroIsNear corners p result }
+    ensures complete { NearIsZero corners p result }
 {
     let at = p.at;
     match probe::check(corners, at, p.tolerance) {

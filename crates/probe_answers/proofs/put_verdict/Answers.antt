@@ -1,0 +1,10 @@
+-- `probe_answers::put_verdict` meets its contract, case by case. Assumes nothing.
+use borrow.Author.Rules.{rules}
+use mathlib.Core.Path.{refl}
+use Rattle.probe_answers.proofs.put_verdict.Goals as goal
+
+pub returns-in-Accepted : goal.returns-in-Accepted
+returns-in-Accepted c = rw c.in-Accepted.is refl
+
+pub returns-in-Refused : goal.returns-in-Refused
+returns-in-Refused c = rw c.in-Refused.is refl
