@@ -3,7 +3,7 @@ use Prim.Native.Nat.{ℕ, suc, ◌*◌, ◌≤◌}
 use native.Mathlib.Omega.{arith}
 use mathlib.Core.Path.{◌≡◌, refl, sym, ◌∙◌, ap, ap₂, subst, subst⁻¹}
 use mathlib.Core.Bool.{false}
-use mathlib.Core.List.{List, [], ◌∷◌, map, Perm, Permᴰ}
+use mathlib.Core.List.{List, [], ◌∷◌, map, Permᴰ}
 use mathlib.Core.Logic.{∥∥₁_elim}
 use lib.Dec.{lit≤, lt→ltb}
 use lib.IntN.{ℤ, pos, negsuc, ◌+ℤ◌, ℤ_set}

@@ -1,5 +1,5 @@
 -- The exact volumes of a mesh file: document 02, 3/12. Definitions and claims only.
-use Rattle.std.specs.Prelude.{ℕ, ◌+◌, ◌*◌, ◌^◌, ◌≤◌, ◌<◌, ◌≡◌, cond, T, ltb, ℤ, pos, nat_abs, ◌+ℤ◌, length, get_or, ◌≤ℤ◌, ◌<ℤ◌}
+use Rattle.std.specs.Prelude.{ℕ, ◌+◌, ◌*◌, ◌^◌, ◌≤◌, ◌<◌, ◌≡◌, cond, ltb, ℤ, pos, nat_abs, ◌+ℤ◌, length, get_or, ◌≤ℤ◌, ◌<ℤ◌}
 use mathlib.Core.List.{List, [], ◌∷◌, map, Perm}
 use Rattle.std.specs.Int.Signed.{le_z}
 use Rattle.std.specs.Float.Ieee.{of_bits}
