@@ -1,10 +1,10 @@
 -- What the 0 of a C function tells: demand 3, from what its Rattle function promises of the answer that was written. Assumes nothing.
 use Prim.Native.Nat.{ℕ}
 use mathlib.Core.Path.{◌≡◌, sym, ap, ◌∙◌, subst}
-use mathlib.Core.List.{List}
+use mathlib.Core.List.{List, [], ◌∷◌}
 use lib.Dec.{T}
 use lib.Ieee.{Float}
-use Rattle.answer.specs.Answer.{Answer, answered, Leaves, number_of}
+use Rattle.answer.specs.Answer.{Answer, answered, Leaves, number_of, RefusesBy}
 use Rattle.answer.proofs.Answers.{leaves_zero, leaves_answered}
 use Rattle.hex_locate.specs.Locate.{inside, located}
 use Rattle.probe.specs.Check.{checked, located_checked, told, place_told}
@@ -35,7 +35,12 @@ locate_told p t v r old new wrote found =
     let whole : Leaves (located_checked p t) r old new = subst (λ (a : Answer (List Float)). Leaves a r old new) found.0 wrote in (
       whole,
       (
-        λ zero. found.1.0 new (found.0 ∙ leaves_zero _ (located_checked p t) r old new tt (refusals_numbered.of_locator p t) whole zero),
+        λ zero. found.1.0 new (found.0 ∙ leaves_zero (3 ∷ 4 ∷ 1 ∷ 2 ∷ 6 ∷ []) (located_checked p t) r old new tt (refusals_numbered.of_locator p t) whole zero),
         λ q place good finite well. leaves_answered (place_told v) r old new q wrote (found.1.1 q place good finite well),
       ),
     )
+
+-- a 0 of the list tells how many were accepted
+pub list_told : (a b : Answer ℕ) (r old new : ℕ) → Leaves a r old new → a ≡ b → RefusesBy (7 ∷ 8 ∷ []) b → r ≡ 0 → a ≡ answered new
+list_told a b r old new wrote same refuses zero =
+    same ∙ leaves_zero (7 ∷ 8 ∷ []) b r old new tt refuses (subst (λ (c : Answer ℕ). Leaves c r old new) same wrote) zero
