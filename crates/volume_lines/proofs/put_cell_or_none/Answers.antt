@@ -1,5 +1,4 @@
 -- `volume_lines::put_cell_or_none` meets its contract: its test is the definition's. Assumes nothing.
-use borrow.Author.Rules.{rules}
 use borrow.Author.Tests.{eq-eqb, ne_eqb}
 use Rattle.buffer.proofs.Writing.{puts_as}
 use Rattle.volume_lines.proofs.put_cell_or_none.Goals as goal

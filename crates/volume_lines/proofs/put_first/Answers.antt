@@ -1,7 +1,6 @@
 -- `volume_lines::put_first` meets its contract: a word, a cell or none, and a newline. Assumes nothing.
 use native.Mathlib.Omega.{arith}
 use mathlib.Core.List.{append_assoc}
-use borrow.Author.Rules.{rules}
 use Rattle.buffer.proofs.Writing.{wrote_as}
 use Rattle.volume_lines.proofs.Pieces.{adds, adds_more, cell_or_none_few}
 use Rattle.volume_lines.proofs.put_first.Goals as goal

@@ -1,6 +1,5 @@
 -- `volume_lines::put_report` meets its contract: the lines of the cells, and two more. Assumes nothing.
 use mathlib.Core.Path.{ap}
-use borrow.Author.Rules.{rules}
 use mir.Facts.{to_z-of_z}
 use Rattle.buffer.proofs.Writing.{wrote_as, wrote_then}
 use Rattle.volume_lines.specs.Lines.{total_line}

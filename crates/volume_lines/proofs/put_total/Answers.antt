@@ -1,7 +1,6 @@
 -- `volume_lines::put_total` meets its contract: a word, a number and a newline. Assumes nothing.
 use native.Mathlib.Omega.{arith}
 use mathlib.Core.List.{append_assoc}
-use borrow.Author.Rules.{rules}
 use Rattle.buffer.proofs.Writing.{wrote_as}
 use Rattle.text.proofs.Lines.{text_lengths}
 use Rattle.volume_lines.proofs.Pieces.{adds, adds_more, puts_signed}
