@@ -6,5 +6,7 @@ use Rattle.isnemgul.proofs.isn_hex_locate_checked.Goals as goal
 pub returns : goal.returns
 returns c =
     let args = c.args in
-    locate_told args.corners.now args.tolerance c.locate_checked.result c.put_checked.result args.at.now
-    c.put_checked.new.1.0 c.put_checked.ensures c.locate_checked.ensures
+    let told = locate_told args.corners.now args.tolerance c.locate_checked.result c.put_checked.result args.at.now c.put_checked.new.at c.put_checked.ensures (
+      c.locate_checked.ensures.result_value, (c.locate_checked.ensures.sound, c.locate_checked.ensures.complete)
+    ) in
+    record { leaves = told.0; sound = told.1.0; complete = told.1.1 }
