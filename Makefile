@@ -34,7 +34,7 @@ endif
 help:
 	@sed -n '/^#/!q; s/^# //p' Makefile
 
-$(ARCHIVE): crates.txt $(shell find crates -name '*.rt' -o -name '*.antt')
+$(ARCHIVE): crates.txt $(shell find crates -name out -prune -o \( -name '*.rt' -o -name '*.antt' \) -print)
 	@tools/archive
 
 # It exports the functions of the C face and nothing else.
@@ -79,7 +79,7 @@ edits:
 	tools/edits
 
 clean:
-	rm -rf target bench/target bindings/rust/target oracle/target
+	rm -rf target crates/*/out bench/target bindings/rust/target oracle/target
 
 # The carried functions against the original Rust, and the additions against an independent second program in Python: both write cases with their
 # answers, and the driver calls the archive and compares.

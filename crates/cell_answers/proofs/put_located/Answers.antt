@@ -1,5 +1,4 @@
 -- `cell_answers::put_located` meets its contract, case by case. Assumes nothing.
-use borrow.Author.Rules.{rules}
 use mathlib.Core.Path.{refl}
 use Rattle.cell_answers.proofs.put_located.Goals as goal
 

@@ -7,6 +7,7 @@ pub returns : goal.returns
 returns c =
     let args = c.args in
     let told = locate_told args.corners.now args.tolerance c.locate_checked.result c.put_checked.result args.at.now c.put_checked.new.at c.put_checked.ensures (
-      c.locate_checked.ensures.result_value, (c.locate_checked.ensures.sound, c.locate_checked.ensures.complete)
+      c.locate_checked.ensures.result_value,
+      (c.locate_checked.ensures.sound, c.locate_checked.ensures.complete),
     ) in
     record { leaves = told.0; sound = told.1.0; complete = told.1.1 }

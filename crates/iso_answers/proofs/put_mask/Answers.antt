@@ -1,5 +1,4 @@
 -- `iso_answers::put_mask` meets its contract, case by case. Assumes nothing.
-use borrow.Author.Rules.{rules}
 use mathlib.Core.Path.{refl}
 use Rattle.iso_answers.proofs.put_mask.Goals as goal
 

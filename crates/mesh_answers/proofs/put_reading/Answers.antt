@@ -1,5 +1,4 @@
 -- `mesh_answers::put_reading` meets its contract, case by case. Assumes nothing.
-use borrow.Author.Rules.{rules}
 use mathlib.Core.Path.{refl}
 use Rattle.mesh_answers.proofs.put_reading.Goals as goal
 

@@ -1,5 +1,4 @@
 -- `mesh_answers::put_writing` meets its contract, case by case. Assumes nothing.
-use borrow.Author.Rules.{rules}
 use mathlib.Core.Path.{refl}
 use Rattle.mesh_answers.proofs.put_writing.Goals as goal
 

@@ -1,5 +1,4 @@
 -- `probe_answers::put_checked` meets its contract, case by case. Assumes nothing.
-use borrow.Author.Rules.{rules}
 use mathlib.Core.Path.{refl}
 use Rattle.probe_answers.proofs.put_checked.Goals as goal
 
