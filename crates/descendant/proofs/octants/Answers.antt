@@ -11,12 +11,12 @@ use Rattle.descendant.proofs.octants.Goals as goal
 pub returns-then-path-j-ge8 : goal.returns-then-path-j-ge8
 returns-then-path-j-ge8 c =
     let path = c.args.path.now in
-    sym (all_miss (λ (i : ℕ). ltb (get_or path i 0) 8) c.loop-j.j (length path) (omega arith) (le-ltb _ _ c.if-path-j-ge8.true))
+    sym (all_miss (λ (i : ℕ). ltb (get_or path i 0) 8) c.loop-j.j (length path) (omega arith) (le-ltb _ _ (omega arith)))
 
 pub loop-j-preserved : goal.loop-j-preserved
 loop-j-preserved c =
     let path = c.args.path.now in
-    (omega arith, all_more (λ (i : ℕ). ltb (get_or path i 0) 8) c.loop-j.j c.loop-j.invariant.1 (lt-ltb _ _ c.if-path-j-ge8.false))
+    (omega arith, all_more (λ (i : ℕ). ltb (get_or path i 0) 8) c.loop-j.j c.loop-j.invariant.1 (lt-ltb _ _ (omega arith)))
 
 pub returns : goal.returns
 returns c =

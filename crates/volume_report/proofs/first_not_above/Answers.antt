@@ -6,6 +6,7 @@ use native.Mathlib.Omega.{arith}
 use mathlib.Core.Path.{◌≡◌, sym, subst, subst⁻¹}
 use mathlib.Core.Bool.{Bool, true, false}
 use mathlib.Core.Logic.{⊎_elim}
+use borrow.Author.Rules.{rules}
 use lib.IntN.{ℤ, pos}
 use lib.ListN.{length}
 use lib.Signed.{le_z}
@@ -26,7 +27,7 @@ returns-then-volume-le0 c =
 pub loop-first-preserved : goal.loop-first-preserved
 loop-first-preserved c =
     let small = c.requires.at c.loop-first.first in
-    let above = subst (λ (v : ℤ). le_z v (pos 0) ≡ false) (within_back tt small) c.if-volume-le0.false in
+    let above = subst (λ (v : ℤ). le_z v (pos 0) ≡ false) (within_back tt small) (search rules) in
     (omega arith, λ j h. one_more _ c.loop-first.invariant.1 above j h)
 
 pub returns : goal.returns
