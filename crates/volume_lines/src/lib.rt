@@ -73,7 +73,7 @@ fn put_first(out: &mut [u8], at: usize, cells: u32, first: u32) -> usize
 
 fn put_report(out: &mut [u8], volumes: &[i64], total: i64, first: u32) -> usize
     requires { (length volumes.now ≤ 128) × (3244 ≤ length out.old) }
-    ensures { Wrote out.old out.new 0 result (report_text (record { volumes = volumes.entry.now; total = total; first = first })) }
+    ensures { Wrote out.old out.new 0 result (report_text (record { volumes = volumes.now; total = total; first = first })) }
 {
     let cells = put_cells(&mut *out, volumes);
     let sum = put_total(&mut *out, cells, total);
