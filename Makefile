@@ -8,7 +8,7 @@
 # make words       whether the refusals' words, the sizes and the version are the same wherever they stand
 # make edits       whether docs/CONTRACTS.md and docs/COVERAGE.md name the must-fail edits that there are
 # make installed   whether programs build and run with what make install writes
-# make test        the gate: proves everything from nothing, and then makes demo to installed, and size
+# make test        the gate: proves everything that no earlier run here has proved, and then makes demo to installed, and size
 # make bench       BENCH=--instructions BEFORE=ARCHIVE: times beside the original's, or instructions; beside an earlier archive's
 # make stack       the stack that each entry takes
 # make size        the bytes that the archive loads, by section and by entry, and what a logger loads of it
