@@ -3,16 +3,18 @@ use Prim.Native.Nat.{ℕ, ◌+◌, ◌-◌, ◌*◌, ◌≤◌, ◌<◌}
 use native.Mathlib.Numerals.{add-one}
 use native.Mathlib.Omega.{arith}
 use mathlib.Core.Path.{◌≡◌, refl, sym, ◌∙◌, ap, ap₂}
-use mathlib.Core.Bool.{Bool, true, false, not}
-use mathlib.Core.List.{List, [], ◌∷◌, ◌++◌, append-nil, append_assoc}
+use mathlib.Core.Bool.{Bool, true, false}
+use mathlib.Core.List.{List, [], ◌∷◌, ◌++◌, map, append-nil, append_assoc}
 use lib.Dec.{leb}
 use lib.ListN.{length, get_or, take, drop, set, length-append, length-set, length-take, take-append-drop}
-use lib.Seq.{take-suc-set, take-length, drop-set-lt, drop-drop, take_at, drop_at, length_front, length-take-le}
-use borrow.Author.Tests.{le-leb, lt-leb, leb-true, leb-false, not-true, not-false}
+use lib.Seq.{take-suc-set, drop-set-lt, drop-drop, take_at, drop_at, length_front, length-take-le}
+use borrow.Author.Tests.{le-leb}
+use borrow.Rule.Slice.PartMut.{put_mid}
 use Rattle.numbers.specs.Little.{bytes, all_bytes}
-use Rattle.numbers.proofs.Little.{all_bytes_more}
+use Rattle.std.proofs.lemmas.List.{get_or-map, length-map, take_all}
+use Rattle.numbers.proofs.Little.{length_all_bytes, all_bytes_more}
 use Rattle.numbers.proofs.Slots.{row_next}
-use Rattle.buffer.specs.Put.{joined, has_room, put, place_behind, Puts, Wrote, WroteLeavesOne, PutsWrite}
+use Rattle.buffer.specs.Put.{has_room, put, place_behind, Puts, Wrote, WroteLeavesOne, PutsWrite}
 
 pub wrote_none : {l : List ℕ} {at : ℕ} → Wrote l l at at []
 wrote_none {l} {at} = record { ends = omega arith; reads = sym (append-nil (take at l)); rest = refl; keeps = refl }
@@ -65,33 +67,22 @@ room_is : (before : List ℕ) (at : ℕ) (text : List ℕ) (size : ℕ) (test : 
 room_is before at text size test long is = rw long (sym is)
 
 module _ {before : List ℕ} {at : ℕ} {text : List ℕ} where
-  pub puts_nothing : (size : ℕ) (test : Bool) → length text ≡ size → test ≡ leb (at + size) (length before) → not test ≡ true
+  pub puts_nothing : (size : ℕ) (test : Bool) → length text ≡ size → test ≡ leb (at + size) (length before) → test ≡ false
       → Puts before before at at text
   unfolding put place_behind
   puts_nothing size test long is none =
-      let no : has_room before at text ≡ false = room_is before at text size test long is ∙ not-true test none in
+      let no : has_room before at text ≡ false = room_is before at text size test long is ∙ none in
       record { buffer = rw no; place = rw no }
 
-  pub puts_written : {after : List ℕ} (size : ℕ) (test : Bool) → length text ≡ size → test ≡ leb (at + size) (length before) → not test ≡ false
+  pub puts_written : {after : List ℕ} (size : ℕ) (test : Bool) → length text ≡ size → test ≡ leb (at + size) (length before) → test ≡ true
       → Wrote before after at (at + size) text → Puts before after at (at + size) text
   unfolding put place_behind
   puts_written size test long is some w =
-      let yes : has_room before at text ≡ true = room_is before at text size test long is ∙ not-false test some in
+      let yes : has_room before at text ≡ true = room_is before at text size test long is ∙ some in
       record { buffer = rw yes (wrote_is w); place = rw yes w.ends }
 
 pub puts_as : {before after : List ℕ} {at end : ℕ} {t u : List ℕ} → t ≡ u → Puts before after at end t → Puts before after at end u
 puts_as e p = rw e at p
-
--- the place is not added to where it may be any number
-pub fits_behind : (room at size : ℕ) → at ≤ room → leb size (room - at) ≡ leb (at + size) room
-fits_behind room at size within = by (leb (at + size) room) refl
-  where
-    by : (test : Bool) → leb (at + size) room ≡ test → leb size (room - at) ≡ test
-    by true e = let fits = leb-true (at + size) room e in le-leb size (room - at) (omega arith)
-    by false e = let not_fits = leb-false (at + size) room e in lt-leb size (room - at) (omega arith)
-
-pub fits_below : (at size room : ℕ) (test : Bool) → test ≡ leb (at + size) room → not test ≡ false → at + size ≤ room
-fits_below at size room test is some = leb-true (at + size) room (sym is ∙ not-false test some)
 
 put_wrote : (before : List ℕ) (at : ℕ) (text : List ℕ) → at + length text ≤ length before
     → Wrote before (take at before ++ (text ++ drop (at + length text) before)) at (at + length text) text
@@ -107,6 +98,17 @@ put_wrote before at text room =
       keeps = rw cut (length_front before (take at before ++ text) (at + length text) (front ∙ sym (length-take-le (at + length text) before room)));
     }
 
+-- a text in the place of a part of the buffer
+pub wrote_part : {l part text : List ℕ} {at size : ℕ} → at + size ≤ length l → part ≡ text → length text ≡ size
+    → Wrote l (put_mid at (at + size - at) l part) at (at + size) text
+wrote_part {l} {part} {text} {at} {size} fits is long =
+    let few : at + size - at ≡ length text = omega (arith, long) in
+    let rest : drop (at + size - at) (drop at l) ≡ drop (at + length text) l = rw few (drop-drop (length text) at l) in
+    let same : put_mid at (at + size - at) l part ≡ take at l ++ (text ++ drop (at + length text) l) =
+    ap₂ (λ (t r : List ℕ). take at l ++ (t ++ r)) is rest
+    in
+    rw (same, ← long) (put_wrote l at text (omega (arith, long)))
+
 pub puts_wrote : {before after : List ℕ} {at end : ℕ} {text : List ℕ} → at + length text ≤ length before → Puts before after at end text
     → Wrote before after at end text
 unfolding put place_behind
@@ -119,43 +121,29 @@ puts_wrote {before} {after} {at} {end} {text} room p =
 pub puts_write : PutsWrite
 puts_write = record { whole = λ before after at end text. puts_wrote; behind = λ a b c at mid end t u. wrote_then }
 
--- ---- many texts, one behind another
--- what a loop holds that writes f 0 .. f (n - 1), each at most w long and behind the one before, once it has written i of them
-pub record Writes (f : ℕ → List ℕ) (w n : ℕ) (before after : List ℕ) (at end i : ℕ) : Type 0 where
-  pub within : i ≤ n
-  pub wrote : Wrote before after at end (joined i f)
-  pub most : end ≤ at + w * i
-
-module _ {f : ℕ → List ℕ} {w n : ℕ} {a : List ℕ} {at : ℕ} where
-  pub writes_none : Writes f w n a a at at 0
-  unfolding joined
-  writes_none = record { within = omega arith; wrote = wrote_none; most = omega arith }
-
-  pub writes_more : {b c : List ℕ} {mid end i : ℕ} → Writes f w n a b at mid i → i < n → Wrote b c mid end (f i) → end ≤ mid + w
-      → Writes f w n a c at end (i + 1)
-  unfolding joined
-  writes_more s below more few = record { within = omega arith; wrote = rw add-one (wrote_then s.wrote more); most = omega (arith, s.most) }
-
-  pub writes_all : {b : List ℕ} {end i : ℕ} → Writes f w n a b at end i → n ≤ i → Wrote a b at end (joined n f) × (end ≤ at + w * n)
-  writes_all {b} {end} {i} s last = let all : i ≡ n = omega (arith, s.within) in (rw all at s.wrote, rw all at s.most)
-
 -- ---- a list of numbers, w bytes each
--- what a loop holds that writes each of them at its place, once it has written i of them
-pub record Laid (w : ℕ) (xs before after : List ℕ) (at i : ℕ) : Type 0 where
-  pub within : i ≤ length xs
-  pub wrote : Wrote before after at (at + w * i) (all_bytes w (take i xs))
+pub length_all : {X : Type 0} (w : ℕ) (f : X → ℕ) (xs : List X) → length (all_bytes w (map f xs)) ≡ w * length xs
+length_all w f xs = length_all_bytes w (map f xs) ∙ ap (λ (n : ℕ). w * n) (length-map xs f)
 
-module _ (w : ℕ) (xs : List ℕ) {a : List ℕ} {at : ℕ} where
-  pub laid_none : Laid w xs a a at 0
+-- what a loop holds that writes each of them at its place, once it has written i of them
+pub record Laid {X : Type 0} (w : ℕ) (f : X → ℕ) (xs : List X) (before after : List ℕ) (at i : ℕ) : Type 0 where
+  pub within : i ≤ length xs
+  pub wrote : Wrote before after at (at + w * i) (all_bytes w (take i (map f xs)))
+
+module _ {X : Type 0} (w : ℕ) (f : X → ℕ) (xs : List X) {a : List ℕ} {at : ℕ} where
+  pub laid_none : Laid w f xs a a at 0
   unfolding all_bytes
   laid_none = let start : at + w * 0 ≡ at = omega arith in record { within = omega arith; wrote = rw start wrote_none }
 
-  pub laid_more : {b c : List ℕ} {i : ℕ} → Laid w xs a b at i → i < length xs → Wrote b c (at + w * i) (at + w * i + w) (bytes w (get_or xs i 0))
-      → Laid w xs a c at (i + 1)
-  laid_more {i = i} l below more =
-      record { within = omega arith; wrote = wrote_on (rw (row_next w i) (omega arith)) (all_bytes_more w xs i below) l.wrote more }
+  pub laid_more : {b c : List ℕ} {i : ℕ} {x : X} → Laid w f xs a b at i → i < length xs → x ≡ get_or xs i x
+      → Wrote b c (at + w * i) (at + w * i + w) (bytes w (f x)) → Laid w f xs a c at (i + 1)
+  laid_more {i = i} {x = x} l below is more =
+      let here : f x ≡ get_or (map f xs) i 0 = ap f is ∙ sym (get_or-map f xs i x 0 below) in
+      let next = all_bytes_more w (map f xs) i (rw length-map below) in
+      record { within = omega arith; wrote = wrote_on (rw (row_next w i) (omega arith)) next l.wrote (rw here at more) }
 
-  pub laid_all : {b : List ℕ} {i : ℕ} → Laid w xs a b at i → length xs ≤ i → Wrote a b at (at + w * length xs) (all_bytes w xs)
+  pub laid_all : {b : List ℕ} {i : ℕ} → Laid w f xs a b at i → length xs ≤ i → Wrote a b at (at + w * length xs) (all_bytes w (map f xs))
   laid_all {i = i} l last =
       let all : i ≡ length xs = omega (arith, l.within) in
-      wrote_as (ap (all_bytes w) (take-length xs)) (rw all at l.wrote)
+      let whole : take i (map f xs) ≡ map f xs = take_all i (map f xs) (rw length-map last) in
+      rw all at (wrote_as (ap (all_bytes w) whole) l.wrote)

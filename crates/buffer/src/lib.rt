@@ -1,94 +1,158 @@
-// Bytes put into a lent buffer, from a place on. Each function answers the place behind what it put. Where the buffer has no room for the whole of
-// it, nothing is written, and the place is answered as it was.
+// Whole numbers in lent bytes, the lowest byte first: read, and put into a buffer from a place on. What puts answers the place behind what it put. Where
+// the buffer has no room for the whole of it, nothing is written, and the place is answered as it was. The buffer and the place are no struct: C lends the one,
+// and the other is the answer.
 #![tactic(auto)]
 
-ghost use Rattle.std.specs.Prelude.{◌≡◌, [], ◌∷◌, ◌+◌, ◌*◌, ◌≤◌, leb, length};
-ghost use Rattle.numbers.specs.Little.{bytes, all_bytes};
+ghost use Rattle.std.specs.Prelude.{ℕ, ◌≡◌, [], ◌∷◌, ◌+◌, ◌*◌, ◌≤◌, ◌<◌, leb, length, map};
+ghost use Rattle.std.proofs.Common.{rules};
+ghost use Rattle.numbers.specs.Little.{number_at, numbers_at, bytes, all_bytes};
 ghost use Rattle.buffer.specs.Put.{Puts, Wrote};
 
-// Whether a buffer of `room` bytes has `size` of them behind the first `at`. Nothing is added to the place, which may be any number.
-fn fits(room: usize, at: usize, size: usize) -> bool
-    ensures { result ≡ leb (at + size) room }
+// A whole number that stands in so many bytes, the lowest first. What is said of its value leaves one possible number.
+pub trait Little: Copy {
+    const WIDTH: usize;
+
+    ghost WIDTH: { ℕ };
+
+    ghost value: { Self → ℕ };
+
+    fn store(self, out: &mut [u8], at: usize)
+        requires { at + WIDTH ≤ length out.old }
+        ensures { Wrote out.old out.new at (at + WIDTH) (bytes WIDTH (value self)) };
+
+    fn load(bytes: &[u8], at: usize) -> Self
+        requires { at + WIDTH ≤ length bytes.now }
+        ensures { value result ≡ number_at bytes.now WIDTH at };
+
+    ghost some_bytes: { 0 < WIDTH };
+
+    ghost one_of_each: { (x y : Self) → value x ≡ value y → x ≡ y };
+}
+
+impl Little for u16 {
+    const WIDTH: usize = 2;
+
+    ghost WIDTH = { 2 };
+
+    ghost value = { λ x. x };
+
+    ghost some_bytes = { Prim.search rules };
+
+    ghost one_of_each = { λ x y same. same };
+
+    fn store(self, out: &mut [u8], at: usize) {
+        out[at..at + 2].copy_from_slice(&self.to_le_bytes());
+    }
+
+    fn load(bytes: &[u8], at: usize) -> u16 {
+        u16::from_le_bytes([bytes[at], bytes[at + 1]])
+    }
+}
+
+impl Little for u32 {
+    const WIDTH: usize = 4;
+
+    ghost WIDTH = { 4 };
+
+    ghost value = { λ x. x };
+
+    ghost some_bytes = { Prim.search rules };
+
+    ghost one_of_each = { λ x y same. same };
+
+    fn store(self, out: &mut [u8], at: usize) {
+        out[at..at + 4].copy_from_slice(&self.to_le_bytes());
+    }
+
+    fn load(bytes: &[u8], at: usize) -> u32 {
+        u32::from_le_bytes([bytes[at], bytes[at + 1], bytes[at + 2], bytes[at + 3]])
+    }
+}
+
+impl Little for u64 {
+    const WIDTH: usize = 8;
+
+    ghost WIDTH = { 8 };
+
+    ghost value = { λ x. x };
+
+    ghost some_bytes = { Prim.search rules };
+
+    ghost one_of_each = { λ x y same. same };
+
+    fn store(self, out: &mut [u8], at: usize) {
+        out[at..at + 8].copy_from_slice(&self.to_le_bytes());
+    }
+
+    fn load(bytes: &[u8], at: usize) -> u64 {
+        u64::from_le_bytes([
+            bytes[at],
+            bytes[at + 1],
+            bytes[at + 2],
+            bytes[at + 3],
+            bytes[at + 4],
+            bytes[at + 5],
+            bytes[at + 6],
+            bytes[at + 7],
+        ])
+    }
+}
+
+// Whether a buffer of `room` bytes has room behind the first `at` for `count` pieces of `width` bytes. Nothing is added to the place, which may be any
+// number, and nothing is multiplied.
+fn fits(room: usize, at: usize, width: usize, count: usize) -> bool
+    requires { 0 < width }
+    ensures { result ≡ leb (at + width * count) room }
 {
     if at > room {
         return false;
     }
-    size <= room - at
+    count <= (room - at) / width
 }
 
-fn store_byte(out: &mut [u8], at: usize, b: u8)
-    requires { at + 1 ≤ length out.old }
-    ensures { Wrote out.old out.new at (at + 1) (b ∷ []) }
+// The numbers of a list, one behind another.
+fn store_all<T: Little>(out: &mut [u8], at: usize, list: &[T])
+    requires { at + T.WIDTH * length list.now ≤ length out.old }
+    ensures { Wrote out.old out.new at (at + T.WIDTH * length list.now)
+        (all_bytes T.WIDTH (map T.value list.now)) }
 {
-    out[at] = b;
-}
-
-fn store_bytes(out: &mut [u8], at: usize, text: &[u8])
-    requires { at + length text.now ≤ length out.old }
-    ensures { Wrote out.old out.new at (at + length text.now) text.now }
-{
-    let mut i: usize = 0;
-    while i < text.len() {
-        store_byte(&mut *out, at + i, text[i]);
-        i += 1;
+    for i in 0..list.len() {
+        list[i].store(&mut *out, at + T::WIDTH * i);
     }
 }
 
-// The numbers of two, four and eight bytes, the lowest first: each is its low half, and behind it its high half.
-fn store_u16(out: &mut [u8], at: usize, x: u16)
-    requires { at + 2 ≤ length out.old }
-    ensures { Wrote out.old out.new at (at + 2) (bytes 2 x) }
+pub fn put<T: Little>(out: &mut [u8], at: usize, x: T) -> usize
+    ensures { Puts out.old out.new at result (bytes T.WIDTH (T.value x)) }
 {
-    store_byte(&mut *out, at, (x % 256) as u8);
-    store_byte(&mut *out, at + 1, (x / 256) as u8);
-}
-
-fn store_u32(out: &mut [u8], at: usize, x: u32)
-    requires { at + 4 ≤ length out.old }
-    ensures { Wrote out.old out.new at (at + 4) (bytes 4 x) }
-{
-    store_u16(&mut *out, at, (x % 65536) as u16);
-    store_u16(&mut *out, at + 2, (x / 65536) as u16);
-}
-
-fn store_u64(out: &mut [u8], at: usize, x: u64)
-    requires { at + 8 ≤ length out.old }
-    ensures { Wrote out.old out.new at (at + 8) (bytes 8 x) }
-{
-    store_u32(&mut *out, at, (x % 4294967296) as u32);
-    store_u32(&mut *out, at + 4, (x / 4294967296) as u32);
-}
-
-// The numbers of a list, four bytes each, and the words of one, eight bytes each: one behind another.
-fn store_numbers(out: &mut [u8], at: usize, numbers: &[u32])
-    requires { at + 4 * length numbers.now ≤ length out.old }
-    ensures { Wrote out.old out.new at (at + 4 * length numbers.now) (all_bytes 4 numbers.now) }
-{
-    let mut i: usize = 0;
-    while i < numbers.len() {
-        store_u32(&mut *out, at + 4 * i, numbers[i]);
-        i += 1;
+    let width = T::WIDTH;
+    if !fits(out.len(), at, width, 1) {
+        return at;
     }
+    let end = at + width;
+    x.store(&mut *out, at);
+    end
 }
 
-fn store_words(out: &mut [u8], at: usize, words: &[u64])
-    requires { at + 8 * length words.now ≤ length out.old }
-    ensures { Wrote out.old out.new at (at + 8 * length words.now) (all_bytes 8 words.now) }
+// All numbers of a list.
+pub fn put_all<T: Little>(out: &mut [u8], at: usize, list: &[T]) -> usize
+    ensures { Puts out.old out.new at result (all_bytes T.WIDTH (map T.value list.now)) }
 {
-    let mut i: usize = 0;
-    while i < words.len() {
-        store_u64(&mut *out, at + 8 * i, words[i]);
-        i += 1;
+    let width = T::WIDTH;
+    if !fits(out.len(), at, width, list.len()) {
+        return at;
     }
+    store_all(&mut *out, at, list);
+    at + width * list.len()
 }
 
+// A byte by itself, and no `Little`: as a number of one byte it would owe each caller that its text is the byte, and be no plainer.
 pub fn put_byte(out: &mut [u8], at: usize, b: u8) -> usize
     ensures { Puts out.old out.new at result (b ∷ []) }
 {
     if at >= out.len() {
         return at;
     }
-    store_byte(&mut *out, at, b);
+    out[at] = b;
     at + 1
 }
 
@@ -96,57 +160,21 @@ pub fn put_byte(out: &mut [u8], at: usize, b: u8) -> usize
 pub fn put_bytes(out: &mut [u8], at: usize, text: &[u8]) -> usize
     ensures { Puts out.old out.new at result text.now }
 {
-    if !fits(out.len(), at, text.len()) {
+    if !fits(out.len(), at, 1, text.len()) {
         return at;
     }
-    store_bytes(&mut *out, at, text);
-    at + text.len()
+    let end = at + text.len();
+    out[at..end].copy_from_slice(text);
+    end
 }
 
-pub fn put_u16(out: &mut [u8], at: usize, x: u16) -> usize
-    ensures { Puts out.old out.new at result (bytes 2 x) }
+// The numbers that stand one behind another from a place on, as many as `out` is long.
+pub fn load_all<T: Little>(bytes: &[u8], at: usize, out: &mut [T])
+    requires { at + T.WIDTH * length out.old ≤ length bytes.now }
+    ensures { map T.value out.new ≡ numbers_at bytes.now T.WIDTH at (length out.old) }
 {
-    if !fits(out.len(), at, 2) {
-        return at;
+    // By index: of a list that an iterator writes a proof knows the length alone.
+    for i in 0..out.len() {
+        out[i] = T::load(bytes, at + T::WIDTH * i);
     }
-    store_u16(&mut *out, at, x);
-    at + 2
-}
-
-// All numbers of a list, and all words of one.
-pub fn put_numbers(out: &mut [u8], at: usize, numbers: &[u32]) -> usize
-    ensures { Puts out.old out.new at result (all_bytes 4 numbers.now) }
-{
-    let size = 4 * numbers.len();
-    if !fits(out.len(), at, size) {
-        return at;
-    }
-    store_numbers(&mut *out, at, numbers);
-    at + size
-}
-
-pub fn put_words(out: &mut [u8], at: usize, words: &[u64]) -> usize
-    ensures { Puts out.old out.new at result (all_bytes 8 words.now) }
-{
-    let size = 8 * words.len();
-    if !fits(out.len(), at, size) {
-        return at;
-    }
-    store_words(&mut *out, at, words);
-    at + size
-}
-
-// A number of four bytes, and one of eight.
-pub fn put_u32(out: &mut [u8], at: usize, x: u32) -> usize
-    ensures { Puts out.old out.new at result (bytes 4 x) }
-{
-    let one = [x];
-    put_numbers(out, at, &one)
-}
-
-pub fn put_u64(out: &mut [u8], at: usize, x: u64) -> usize
-    ensures { Puts out.old out.new at result (bytes 8 x) }
-{
-    let one = [x];
-    put_words(out, at, &one)
 }

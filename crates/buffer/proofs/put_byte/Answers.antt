@@ -5,7 +5,7 @@ use mathlib.Core.Path.{refl, sym}
 use mathlib.Core.Bool.{true, false}
 use borrow.Author.Tests.{le-leb, lt-leb}
 use lib.ListN.{length}
-use Rattle.buffer.proofs.Writing.{puts_nothing, puts_written}
+use Rattle.buffer.proofs.Writing.{wrote_byte, puts_nothing, puts_written}
 use Rattle.buffer.proofs.put_byte.Goals as goal
 
 pub returns-then-at-out : goal.returns-then-at-out
@@ -16,4 +16,4 @@ returns-then-at-out c =
 pub returns : goal.returns
 returns c =
     let args = c.args in
-    puts_written 1 true refl (sym (le-leb (args.at + 1) (length args.out.now) (omega arith))) refl c.store_byte.ensures
+    puts_written 1 true refl (sym (le-leb (args.at + 1) (length args.out.now) (omega arith))) refl (wrote_byte (omega arith))
