@@ -1,6 +1,5 @@
 pub mod Edges
-pub mod Image
-pub mod Newton
-pub mod Points
+pub mod Sums
+pub mod Steps
 pub mod Refusals
 pub mod Shape

@@ -2,5 +2,4 @@ pub mod Edges
 pub mod Image
 pub mod Middles
 pub mod Newton
-pub mod Points
 pub mod Shape

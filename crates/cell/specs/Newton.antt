@@ -6,8 +6,6 @@ use Rattle.answer.specs.Answer.{Answer, answered, refused, and_then, after, Lose
 use Rattle.mat3_col_major.specs.Mat3.{transposed, product}
 use Rattle.mat3_inverse.specs.Inverse.{inverse}
 use Rattle.cell.specs.declared.Point.{Point}
-use Rattle.cell.specs.declared.Step.{Step}
-use Rattle.cell.specs.declared.Step.TheVariants.{Next, Stuck}
 use Rattle.cell.specs.declared.Located.{Located}
 use Rattle.cell.specs.declared.Located.TheVariants.{Inside, Flat, Outside}
 
@@ -30,24 +28,20 @@ step_from q image jacobian = step_by q image (inverse (transposed jacobian))
 abbrev pub verdict : (List Float → Bool) → List Float → Answer (List Float)
 verdict inside q = cond (inside q) (answered q) (refused 2)
 
+-- so many steps unless one is refused, and then the inside test
+abbrev pub newton : ℕ → (List Float → Answer (List Float)) → List Float → (List Float → Bool) → Answer (List Float)
+newton steps step start inside = and_then (after step start steps) (verdict inside)
+
 -- "takes exactly 20 steps unless a determinant is zero", which is refusal 1, and then the inside test
 abbrev pub locate : (List Float → Answer (List Float)) → List Float → (List Float → Bool) → Answer (List Float)
-locate step start inside = and_then (after step start 20) (verdict inside)
-
--- the number and the values of each case of a step
-abbrev pub step_told : Step → Answer (List Float)
-step_told (Next q) = answered (coords q)
-step_told Stuck = refused 1
+locate step start inside = newton 20 step start inside
 
 -- the number and the values of each case: "inside with three coordinates, flat, or outside"
 abbrev pub told : Located → Answer (List Float)
-told (Inside r s t) = answered (r ∷ s ∷ t ∷ [])
+told (Inside q) = answered q
 told Flat = refused 1
 told Outside = refused 2
 
 -- So the contracts leave one possible answer.
 abbrev pub ToldLosesNothing : Type 0
 ToldLosesNothing = LosesNothing told
-
-abbrev pub StepToldLosesNothing : Type 0
-StepToldLosesNothing = LosesNothing step_told

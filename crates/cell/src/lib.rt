@@ -1,55 +1,33 @@
-// What the two cells share: a point, the answers of a locator and of a volume, the image and the Jacobian over any number of corners, and one Newton step.
+// What the two cells share: a point, the image and the Jacobian over any number of corners, and Newton's search for the place of the origin.
 #![tactic(auto)]
 
-ghost use Rattle.std.specs.Prelude.{◌≡◌, ◌<◌};
+ghost use Rattle.std.specs.Prelude.{◌≡◌, ◌<◌, Bool, List, Float};
 ghost use Rattle.numbers.specs.Rule.{tabulate};
 ghost use Rattle.binary64.specs.Binary64.{◌⊗◌, ◌!◌};
-ghost use Rattle.mat3_inverse.specs.Inverse.{told};
-ghost use Rattle.cell.specs.Image.{corner, image_on, jacobian_on, row_by_row, with_row};
-ghost use Rattle.cell.specs.Newton.{coords, less_by, step_by, step_told};
+ghost use Rattle.answer.specs.Told.{told as answer_told};
+ghost use Rattle.cell.specs.Image.{corner, image_on, image, jacobian_on, jacobian, row_by_row, with_row};
+ghost use Rattle.cell.specs.Newton.{step_from, newton, told};
 
-use mat3_inverse::Inverse;
+use answer::Refusal;
 
 // A place in a cell, or a point in space.
 #[repr(C)]
-#[derive(Clone, Copy)]
+#[derive(Clone, Copy, PartialEq)]
 pub struct Point {
     pub x: f64,
     pub y: f64,
     pub z: f64,
 }
 
-// The next place, or none because the determinant is zero.
-#[derive(Drop)]
-pub enum Step {
-    Next(Point),
-    Stuck,
-}
-
-// Where the origin lies in a cell.
-#[derive(Drop)]
-pub enum Located {
-    Inside(f64, f64, f64),
-    Flat,
-    Outside,
-}
-
-// A volume, or the number of a refusal.
-#[derive(Drop)]
-pub enum Measured {
-    Volume(f64),
-    Refused(u32),
-}
-
 // Three rows of three floats, one behind another.
-pub fn rows(x: [f64; 3], y: [f64; 3], z: [f64; 3]) -> [f64; 9]
+fn rows(x: [f64; 3], y: [f64; 3], z: [f64; 3]) -> [f64; 9]
     ensures { result ≡ row_by_row x y z }
 {
     [x[0], x[1], x[2], y[0], y[1], y[2], z[0], z[1], z[2]]
 }
 
 // Row i of a matrix that stands row by row, of three rows.
-pub fn put_row(m: &mut [f64; 9], i: usize, row: [f64; 3])
+fn put_row(m: &mut [f64; 9], i: usize, row: [f64; 3])
     ensures { m.new ≡ with_row m.old i row }
 {
     if i < 3 {
@@ -90,7 +68,7 @@ fn jacobian_entry(corners: u32, p: &[f64], dndr: &[f64], row: u32, col: u32) -> 
 }
 
 // A row of the Jacobian.
-pub fn jacobian_row(corners: u32, p: &[f64], dndr: &[f64], row: u32) -> [f64; 3]
+fn jacobian_row(corners: u32, p: &[f64], dndr: &[f64], row: u32) -> [f64; 3]
     ensures { result ≡ tabulate 3 (jacobian_on corners p.now dndr.now row) }
 {
     [
@@ -98,6 +76,28 @@ pub fn jacobian_row(corners: u32, p: &[f64], dndr: &[f64], row: u32) -> [f64; 3]
         jacobian_entry(corners, p, dndr, row, 1),
         jacobian_entry(corners, p, dndr, row, 2),
     ]
+}
+
+// The Jacobian of a cell of so many corners, row by row, from the slopes.
+#[inline(always)]
+pub fn jacobian(corners: u32, p: &[f64], dndr: &[f64]) -> [f64; 9]
+    ensures { result ≡ jacobian corners p.now dndr.now }
+{
+    let x = jacobian_row(corners, p, dndr, 0);
+    let y = jacobian_row(corners, p, dndr, 1);
+    let z = jacobian_row(corners, p, dndr, 2);
+    rows(x, y, z)
+}
+
+// The same into a lent matrix, a row after the other: the volumes and C are quicker so.
+#[inline(always)]
+pub fn jacobian_into(corners: u32, p: &[f64], dndr: &[f64], dxdr: &mut [f64; 9])
+    ensures { dxdr.new ≡ jacobian corners p.now dndr.now }
+{
+    *dxdr = [0.0; 9];
+    put_row(dxdr, 0, jacobian_row(corners, p, dndr, 0));
+    put_row(dxdr, 1, jacobian_row(corners, p, dndr, 1));
+    put_row(dxdr, 2, jacobian_row(corners, p, dndr, 2));
 }
 
 // Corner inode's part of axis idim of the image, from the shape values.
@@ -109,7 +109,7 @@ fn image_term(an: &[f64], p: &[f64], inode: usize, idim: usize) -> f64
 }
 
 // An axis of the image in a cell of so many corners, from the shape values.
-pub fn image_entry(corners: u32, an: &[f64], p: &[f64], axis: u32) -> f64
+fn image_entry(corners: u32, an: &[f64], p: &[f64], axis: u32) -> f64
     ensures { result ≡ image_on corners an.now p.now axis }
 {
     if corners == 0 {
@@ -124,25 +124,90 @@ pub fn image_entry(corners: u32, an: &[f64], p: &[f64], axis: u32) -> f64
     pos
 }
 
-fn moved(at: Point, by: [f64; 3]) -> Point
-    ensures { coords result ≡ less_by (coords at) by }
+// The image in a cell of so many corners, from the shape values.
+#[inline(always)]
+pub fn image(corners: u32, an: &[f64], p: &[f64]) -> [f64; 3]
+    ensures { result ≡ image corners an.now p.now }
 {
-    Point {
-        x: at.x - by[0],
-        y: at.y - by[1],
-        z: at.z - by[2],
+    // z first: with x before it the check takes a thirtieth longer
+    let z = image_entry(corners, an, p, 2);
+    let x = image_entry(corners, an, p, 0);
+    let y = image_entry(corners, an, p, 1);
+    [x, y, z]
+}
+
+// Where the origin lies in a cell. None of the three is an error: the probe is inside, or elsewhere, or the cell is flat where the search went.
+#[derive(Clone, Copy, PartialEq)]
+pub enum Located {
+    Inside([f64; 3]),
+    Flat,
+    Outside,
+}
+
+impl Located {
+    // The place, or why there is none.
+    pub fn place(self) -> Result<[f64; 3], Refusal>
+        ensures { answer_told result ≡ told self }
+    {
+        match self {
+            Located::Inside(pco) => Ok(pco),
+            Located::Flat => Err(Refusal::Flat),
+            Located::Outside => Err(Refusal::Outside),
+        }
     }
 }
 
-// One Newton step from a place with this image, by the inverse of its Jacobian.
-pub fn newton_step(at: Point, image: [f64; 3], inverse: Inverse) -> Step
-    ensures { step_told result ≡ step_by (coords at) image (told inverse) }
+// A cell in which Newton looks for the place of the origin: the image of each place and the Jacobian there, the place to start from, and which places
+// are inside.
+pub trait Cell {
+    ghost image_at: { Self → List Float → List Float };
+
+    ghost jacobian_at: { Self → List Float → List Float };
+
+    ghost first: { List Float };
+
+    ghost holds: { List Float → Bool };
+
+    fn image(&self, pco: [f64; 3]) -> [f64; 3]
+        ensures { result ≡ image_at self.now pco };
+
+    // The Jacobian, row by row.
+    fn jacobian(&self, pco: [f64; 3]) -> [f64; 9]
+        ensures { result ≡ jacobian_at self.now pco };
+
+    fn start() -> [f64; 3]
+        ensures { result ≡ first };
+
+    fn inside(pco: [f64; 3]) -> bool
+        ensures { result ≡ holds pco };
+}
+
+// The next place, unless the determinant is zero.
+fn newton_step<C: Cell>(cell: &C, pco: [f64; 3]) -> Result<[f64; 3], Refusal>
+    ensures { answer_told result ≡ step_from pco (C.image_at cell.now pco) (C.jacobian_at cell.now pco) }
 {
-    match inverse {
-        Inverse::Of(a, b, c, d, e, f, g, h, i) => Step::Next(moved(
-            at,
-            mat3_col_major::mult_vec([a, b, c, d, e, f, g, h, i], image),
-        )),
-        Inverse::ZeroDeterminant => Step::Stuck,
+    let pos = cell.image(pco);
+    let jac = cell.jacobian(pco);
+    let jac_col = mat3_col_major::transpose(jac);
+    let inverse = mat3_inverse::try_inverse(jac_col)?;
+    let by = mat3_col_major::mult_vec(inverse, pos);
+    Ok([pco[0] - by[0], pco[1] - by[1], pco[2] - by[2]])
+}
+
+// So many Newton steps, and then the inside test.
+pub fn newton<C: Cell>(cell: &C, steps: usize) -> Located
+    ensures { told result ≡ newton steps (λ q. step_from q (C.image_at cell.now q) (C.jacobian_at cell.now q)) C.first C.holds }
+{
+    let mut pco = C::start();
+    for _ in 0..steps {
+        match newton_step(cell, pco) {
+            Ok(next) => pco = next,
+            Err(_) => return Located::Flat,
+        }
+    }
+    if C::inside(pco) {
+        Located::Inside(pco)
+    } else {
+        Located::Outside
     }
 }

@@ -2,20 +2,16 @@
 #![tactic(auto)]
 
 ghost use Rattle.std.specs.Prelude.{◌≡◌};
-ghost use Rattle.cell.specs.Newton.{coords, step_told, told, verdict};
-ghost use Rattle.hex_locate.specs.Locate.{step, within, inside, located};
+ghost use Rattle.cell.specs.Newton.{told};
+ghost use Rattle.hex_image.specs.Image.{image_at, jacobian_at};
+ghost use Rattle.hex_locate.specs.Locate.{start, within, inside, located};
 
-use cell::{Located, Point, Step};
+use cell::{Cell, Located};
 
-fn step_from(p: [f64; 24], at: Point) -> Step
-    ensures { step_told result ≡ step p (coords at) }
-{
-    let pco = [at.x, at.y, at.z];
-    let pos = hex_image::image(p, pco);
-    let jac = hex_image::newton_jacobian(p, pco);
-    let jac_col = mat3_col_major::transpose(jac);
-    let inverse = mat3_inverse::try_inverse(jac_col);
-    cell::newton_step(at, pos, inverse)
+// Corners: xyz, Xyz, XYz, xYz, xyZ, XyZ, XYZ, xYZ.
+#[derive(Clone, Copy)]
+struct Hexahedron<'a> {
+    corners: &'a [f64; 24],
 }
 
 // Whether x lies in [-1, 1]. A NaN does not.
@@ -26,39 +22,43 @@ pub fn within_one(x: f64) -> bool
     (x >= -one) & (x <= one)
 }
 
-fn answer(at: Point) -> Located
-    ensures { told result ≡ verdict inside (coords at) }
-{
-    if within_one(at.x) & within_one(at.y) & within_one(at.z) {
-        Located::Inside(at.x, at.y, at.z)
-    } else {
-        Located::Outside
+impl<'a> Cell for Hexahedron<'a> {
+    ghost image_at = { λ cell q. image_at cell.corners.now q };
+
+    ghost jacobian_at = { λ cell q. jacobian_at cell.corners.now q };
+
+    ghost first = { start };
+
+    ghost holds = { inside };
+
+    fn image(&self, pco: [f64; 3]) -> [f64; 3] {
+        hex_image::image_of(self.corners, pco)
+    }
+
+    fn jacobian(&self, pco: [f64; 3]) -> [f64; 9] {
+        hex_image::newton_jacobian(self.corners, pco)
+    }
+
+    fn start() -> [f64; 3]
+        ensures { result ≡ start }
+    {
+        [0.0, 0.0, 0.0]
+    }
+
+    fn inside(pco: [f64; 3]) -> bool
+        ensures { result ≡ inside pco }
+    {
+        within_one(pco[0]) & within_one(pco[1]) & within_one(pco[2])
     }
 }
 
-// Twenty steps and the inside test, of corners that are lent.
+// Twenty steps and the inside test, of corners that are lent, as C lends them; the source has them by value.
 pub fn newton(p: &[f64; 24]) -> Located
     ensures { told result ≡ located p.now }
 {
-    let mut at = Point {
-        x: 0.0,
-        y: 0.0,
-        z: 0.0,
-    };
-    for i in 0..20usize {
-        match step_from(*p, at) {
-            Step::Next(to) => {
-                at = to;
-            }
-            Step::Stuck => {
-                return Located::Flat;
-            }
-        }
-    }
-    answer(at)
+    cell::newton(&Hexahedron { corners: p }, 20)
 }
 
-// Corners: xyz, Xyz, XYz, xYz, xyZ, XyZ, XYZ, xYZ.
 pub fn parametric_coord_for_origin(p: [f64; 24]) -> Located
     ensures { told result ≡ located p }
 {

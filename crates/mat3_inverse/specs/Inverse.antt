@@ -1,13 +1,11 @@
 -- The inverse of a 3 by 3 matrix, by its cofactors: document 01, "Four matrix functions of 002". Definitions and claims only.
-use Rattle.std.specs.Prelude.{ℕ, ◌+◌, ◌≡◌, cond, List, [], ◌∷◌, Float, ℤ, ◌*ℤ◌}
+use Rattle.std.specs.Prelude.{ℕ, ◌+◌, ◌≡◌, cond, List, Float, ℤ, ◌*ℤ◌}
 use Rattle.numbers.specs.Rule.{tabulate}
 use Rattle.numbers.specs.Arithmetic.{Arithmetic}
 use Rattle.integers.specs.Integers.{integers}
 use Rattle.binary64.specs.Binary64.{◌⊘◌, f1, is_zero, floats}
-use Rattle.answer.specs.Answer.{Answer, answered, refused, LosesNothing}
+use Rattle.answer.specs.Answer.{Answer, answered, refused}
 use Rattle.mat3_col_major.specs.Mat3.{matrix, entry, product_in, det_in, det, diagonal}
-use Rattle.mat3_inverse.specs.declared.Inverse.{Inverse}
-use Rattle.mat3_inverse.specs.declared.Inverse.TheVariants.{Of, ZeroDeterminant}
 
 -- The formulas, one text for every arithmetic: in floats it is what the code computes, in whole numbers what is claimed below.
 module _ {A : Type 0} (a : Arithmetic A) where
@@ -41,12 +39,3 @@ CofactorsInvert =
 -- "The last gives none when the determinant is plus or minus zero, never for NaN or infinity."
 unfoldable pub inverse : List Float → Answer (List Float)
 inverse m = cond (is_zero (det m)) (refused 1) (answered (scaled_cofactors (f1 ⊘ det m) m))
-
--- the number and the values of each answer of the inverse
-abbrev pub told : Inverse → Answer (List Float)
-told (Of a b c d e f g h i) = answered (a ∷ b ∷ c ∷ d ∷ e ∷ f ∷ g ∷ h ∷ i ∷ [])
-told ZeroDeterminant = refused 1
-
--- So the contract leaves one possible answer.
-abbrev pub ToldLosesNothing : Type 0
-ToldLosesNothing = LosesNothing told

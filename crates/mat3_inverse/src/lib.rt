@@ -3,25 +3,21 @@
 
 ghost use Rattle.std.specs.Prelude.{◌≡◌, ◌<◌};
 ghost use Rattle.binary64.specs.Binary64.{◌⊖◌, ◌⊗◌, ◌!◌};
-ghost use Rattle.mat3_inverse.specs.Inverse.{scaled_cofactors, inverse, told};
+ghost use Rattle.answer.specs.Told.{told};
+ghost use Rattle.mat3_inverse.specs.Inverse.{scaled_cofactors, inverse};
 
-// The Rust's Option: nine floats, or none because the determinant is plus or minus zero.
-#[derive(Drop)]
-pub enum Inverse {
-    Of(f64, f64, f64, f64, f64, f64, f64, f64, f64),
-    ZeroDeterminant,
-}
+use answer::Refusal;
 
-pub fn try_inverse(b: [f64; 9]) -> Inverse
+// Refused where the determinant is plus or minus zero.
+pub fn try_inverse(b: [f64; 9]) -> Result<[f64; 9], Refusal>
     ensures { told result ≡ inverse b }
 {
     let det = mat3_col_major::determinant(b);
     if det == 0.0 {
-        return Inverse::ZeroDeterminant;
+        return Err(Refusal::Flat);
     }
     let inv_det = 1.0 / det;
-    let m = scaled_cofactors(inv_det, b);
-    Inverse::Of(m[0], m[1], m[2], m[3], m[4], m[5], m[6], m[7], m[8])
+    Ok(scaled_cofactors(inv_det, b))
 }
 
 // A product of two entries less another.

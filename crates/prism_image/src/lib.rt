@@ -8,47 +8,41 @@ ghost use Rattle.prism_image.specs.Image.{image_at, jacobian_at};
 pub fn image(p: [f64; 18], pco: [f64; 3]) -> [f64; 3]
     ensures { result ≡ image_at p pco }
 {
-    let sf = &prism_shape::shapefunc(pco);
-    let p = &p;
-    [
-        cell::image_entry(6, sf, p, 0),
-        cell::image_entry(6, sf, p, 1),
-        cell::image_entry(6, sf, p, 2),
-    ]
+    image_of(&p, pco)
+}
+
+// The same of corners that are lent: Newton reads them where they lie.
+#[inline(always)]
+#[tactic(auto, unfolding(crate::specs::Image::image_at))]
+pub fn image_of(p: &[f64; 18], pco: [f64; 3]) -> [f64; 3]
+    ensures { result ≡ image_at p.now pco }
+{
+    cell::image(6, &prism_shape::shapefunc(pco), p)
 }
 
 // The Jacobian at a place, row by row.
 pub fn dxdr(p: [f64; 18], pco: [f64; 3]) -> [f64; 9]
     ensures { result ≡ jacobian_at p pco }
 {
-    let dndr = &prism_shape::dndr(pco);
-    let p = &p;
     let mut dxdr = [0.0; 9];
-    cell::put_row(&mut dxdr, 0, cell::jacobian_row(6, p, dndr, 0));
-    cell::put_row(&mut dxdr, 1, cell::jacobian_row(6, p, dndr, 1));
-    cell::put_row(&mut dxdr, 2, cell::jacobian_row(6, p, dndr, 2));
+    dxdr_into(&p, pco, &mut dxdr);
     dxdr
 }
 
-// The same of corners that are lent, into a lent output, with no other caller than the C face.
+// The same of corners that are lent, into a lent output, for the volume and C.
+#[inline(always)]
+#[tactic(auto, unfolding(crate::specs::Image::jacobian_at))]
 pub fn dxdr_into(p: &[f64; 18], pco: [f64; 3], dxdr: &mut [f64; 9])
     ensures { dxdr.new ≡ jacobian_at p.now pco }
 {
-    let dndr = &prism_shape::dndr(pco);
-    *dxdr = [0.0; 9];
-    cell::put_row(dxdr, 0, cell::jacobian_row(6, p, dndr, 0));
-    cell::put_row(dxdr, 1, cell::jacobian_row(6, p, dndr, 1));
-    cell::put_row(dxdr, 2, cell::jacobian_row(6, p, dndr, 2));
+    cell::jacobian_into(6, p, &prism_shape::dndr(pco), dxdr);
 }
 
-// The same for the Newton step: with no other caller it is compiled into the step.
-pub fn newton_jacobian(p: [f64; 18], pco: [f64; 3]) -> [f64; 9]
-    ensures { result ≡ jacobian_at p pco }
+// The same by value for the Newton step, where no place goes through memory.
+#[inline(always)]
+#[tactic(auto, unfolding(crate::specs::Image::jacobian_at))]
+pub fn newton_jacobian(p: &[f64; 18], pco: [f64; 3]) -> [f64; 9]
+    ensures { result ≡ jacobian_at p.now pco }
 {
-    let dndr = &prism_shape::dndr(pco);
-    let p = &p;
-    let x = cell::jacobian_row(6, p, dndr, 0);
-    let y = cell::jacobian_row(6, p, dndr, 1);
-    let z = cell::jacobian_row(6, p, dndr, 2);
-    cell::rows(x, y, z)
+    cell::jacobian(6, p, &prism_shape::dndr(pco))
 }

@@ -2,14 +2,8 @@
 use native.Mathlib.Omega.{arith}
 use mathlib.Core.Path.{◌≡◌}
 use borrow.Author.Rules.{rules}
-use Rattle.cell.proofs.Image.{image_more}
+use Rattle.cell.proofs.Sums.{image_more}
 use Rattle.cell.proofs.image_entry.Goals as goal
-
-pub returns-then-corners-eq0 : goal.returns-then-corners-eq0
-returns-then-corners-eq0 c = simp c.if-corners-eq0.true
-
-pub loop-inode-init : goal.loop-inode-init
-loop-inode-init c = (search rules, search rules, c.image_term-pos.ensures)
 
 pub loop-inode-preserved : goal.loop-inode-preserved
 loop-inode-preserved c =

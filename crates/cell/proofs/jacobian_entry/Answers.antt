@@ -1,12 +1,9 @@
 -- `cell::jacobian_entry` meets its contract: a turn adds one corner to the sum. Assumes nothing.
 use native.Mathlib.Omega.{arith}
-use mathlib.Core.Path.{◌≡◌, refl}
+use mathlib.Core.Path.{◌≡◌}
 use borrow.Author.Rules.{rules}
-use Rattle.cell.proofs.Image.{jacobian_more}
+use Rattle.cell.proofs.Sums.{jacobian_more}
 use Rattle.cell.proofs.jacobian_entry.Goals as goal
-
-pub loop-inode-init : goal.loop-inode-init
-loop-inode-init c = (search rules, refl)
 
 pub loop-inode-preserved : goal.loop-inode-preserved
 loop-inode-preserved c =

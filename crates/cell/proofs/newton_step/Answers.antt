@@ -1,8 +1,15 @@
--- `cell::newton_step` meets its contract: the step by the inverse, where there is one. Assumes nothing.
+-- `cell::newton_step` meets its contract: the image times the inverse is taken off, where there is an inverse. Assumes nothing.
+use mathlib.Core.Path.{◌≡◌, ◌∙◌, ap}
+use borrow.Author.Rules.{rules}
+use Rattle.std.specs.Prelude.{Err}
+use Rattle.answer.specs.Told.{told}
+use Rattle.cell.proofs.Steps.{step_refused, step_taken}
 use Rattle.cell.proofs.newton_step.Goals as goal
 
-pub returns-in-Of : goal.returns-in-Of
-returns-in-Of c = simp (c.in-Of.is, c.moved.ensures, c.mult_vec.ensures)
+pub returns-in_err-inverse : goal.returns-in_err-inverse
+returns-in_err-inverse g c =
+    let same : c.from_residual.result ≡ Err c.in_err-inverse.field-0.0 = search rules in
+    ap told same ∙ step_refused _ _ _ (search rules) c.in_err-inverse.ensures
 
-pub returns-in-ZeroDeterminant : goal.returns-in-ZeroDeterminant
-returns-in-ZeroDeterminant c = simp c.in-ZeroDeterminant.is
+pub returns : goal.returns
+returns g c = step_taken _ _ _ (search rules) c.in_ok-inverse.ensures (search rules)

