@@ -1,53 +1,46 @@
 // hex.rs: the volume of a hexahedron, by points that the caller lends.
 #![tactic(auto)]
 
-ghost use Rattle.std.specs.Prelude.{◌≡◌, ◌≤◌, ◌<◌};
-ghost use Rattle.cell.specs.Points.{point_count, told};
-ghost use Rattle.hex_volume.specs.Volume.{term_at, sum_of_terms, volume};
+ghost use Rattle.std.specs.Prelude.{◌≡◌, length};
+ghost use Rattle.answer.specs.Told.{told};
+ghost use Rattle.binary64.specs.Binary64.{◌⊗◌};
+ghost use Rattle.mat3_col_major.specs.Mat3.{det};
+ghost use Rattle.quadrature.specs.Points.{point};
+ghost use Rattle.hex_image.specs.Image.{jacobian_at};
+ghost use Rattle.hex_volume.specs.Volume.{term_of, sum_over, volume};
 
-use cell::Measured;
+use answer::Refusal;
 
-// What the points ir0, ir1, ir2 add to the volume.
-fn term(p: [f64; 24], quadrature: &[f64], ir0: usize, ir1: usize, ir2: usize) -> f64
-    requires { (ir0 < point_count 2 quadrature.now) × (ir1 < point_count 2 quadrature.now) × (ir2 < point_count 2 quadrature.now) }
-    ensures { result ≡ term_at p quadrature.now ir0 ir1 ir2 }
+// What a place adds to the volume by its weight.
+fn term(p: [f64; 24], pco: [f64; 3], w: f64) -> f64
+    ensures { result ≡ det (jacobian_at p pco) ⊗ w }
 {
-    let r0 = quadrature[2 * ir0];
-    let r1 = quadrature[2 * ir1];
-    let r2 = quadrature[2 * ir2];
-    let w = quadrature[2 * ir0 + 1] * quadrature[2 * ir1 + 1] * quadrature[2 * ir2 + 1];
-    let dxdr = hex_image::dxdr(p, [r0, r1, r2]);
+    let mut dxdr = [0.0; 9];
+    hex_image::dxdr_into(&p, pco, &mut dxdr);
     let detjac = mat3_col_major::determinant_at(&dxdr);
     detjac * w
 }
 
-// The sum over the first nq points on each axis.
-fn sum_of_terms(p: [f64; 24], quadrature: &[f64], nq: usize) -> f64
-    requires { nq ≤ point_count 2 quadrature.now }
-    ensures { result ≡ sum_of_terms p quadrature.now nq }
+// The sum over the points on each axis.
+fn sum_of_terms(p: [f64; 24], points: &[[f64; 2]]) -> f64
+    ensures { result ≡ sum_over (length points.now) (λ i j k. term_of p (point points.now i) (point points.now j) (point points.now k)) }
 {
     let mut sum = 0.0;
-    for ir0 in 0..nq {
-        for ir1 in 0..nq {
-            for ir2 in 0..nq {
-                sum = sum + term(p, quadrature, ir0, ir1, ir2);
+    for a in points {
+        for b in points {
+            for c in points {
+                sum = sum + term(p, [a[0], b[0], c[0]], a[1] * b[1] * c[1]);
             }
         }
     }
     sum
 }
 
-pub fn volume(p: [f64; 24], quadrature: &[f64]) -> Measured
+#[tactic(auto, using(crate::proofs::Measured::measured))]
+pub fn volume(p: [f64; 24], quadrature: &[f64]) -> Result<f64, Refusal>
     ensures { told result ≡ volume p quadrature.now }
 {
-    let nq = quadrature.len() / 2;
-    let not_whole = quadrature.len() % 2 != 0;
-    let not_one_to_16 = (nq < 1) | (16 < nq);
-    if not_whole {
-        return Measured::Refused(8);
-    }
-    if not_one_to_16 {
-        return Measured::Refused(7);
-    }
-    Measured::Volume(sum_of_terms(p, quadrature, nq))
+    let points = quadrature::whole::<2>(quadrature)?;
+    quadrature::one_to_16(points)?;
+    Ok(sum_of_terms(p, points))
 }

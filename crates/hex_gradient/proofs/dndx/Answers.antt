@@ -4,9 +4,4 @@ use Rattle.hex_gradient.proofs.dndx.Goals as goal
 
 pub returns : goal.returns
 unfolding shape_gradient
-returns c =
-    simp (
-      c.grad_shapefunc_from_dndr-g.ensures,
-      c.shapefunc-an.ensures,
-      c.dndr-dndr.ensures,
-    )
+returns c = simp (c.grad_shapefunc_from_dndr-detjac.ensures, c.shapefunc.ensures, c.dndr.ensures)

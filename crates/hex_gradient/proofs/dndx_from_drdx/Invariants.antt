@@ -1,12 +1,8 @@
 -- `hex_gradient::dndx_from_drdx` meets its contract: a turn stores the three slopes of its corner. Assumes nothing.
-use Prim.Native.Nat.{◌-◌, ◌≤◌}
 use mathlib.Core.Path.{◌≡◌}
 use Rattle.numbers.proofs.Fill.{fill_rows}
 use Rattle.hex_gradient.specs.Gradient.{slope_in_space}
 use Rattle.hex_gradient.proofs.dndx_from_drdx.Given as goal
 
 abbrev pub invariant-loop-inode : goal.invariant-loop-inode
-invariant-loop-inode l = (l.inode ≤ 8) × (l.dndx ≡ fill_rows (slope_in_space l.dndr l.drdx) 3 l.inode l.initial.dndx)
-
-abbrev pub decreases-loop-inode : goal.decreases-loop-inode
-decreases-loop-inode l = 8 - l.inode
+invariant-loop-inode l = l.dndx ≡ fill_rows (slope_in_space l.dndr l.drdx) 3 l.inode l.initial.dndx

@@ -1,51 +1,48 @@
--- `hex_volume::sum_of_terms` meets its contract: a turn adds one term, and nested counting loops go through the terms in order. Assumes nothing.
-use Prim.Native.Nat.{ℕ, ◌*◌, ◌/◌, ◌%◌, ◌^◌, ◌<◌}
-use native.Mathlib.Nat.{add_assoc, add-zero, mul-zero, one-mul, pow-zero, pow-suc}
+-- `hex_volume::sum_of_terms` meets its contract: a turn adds one term, and nested loops go through the terms in order. Assumes nothing.
+use Prim.Native.Nat.{◌*◌, ◌^◌, ◌<◌}
+use native.Mathlib.Nat.{add_assoc, mul-zero, one-mul, pow-zero, pow-suc}
 use native.Mathlib.Omega.{arith}
 use mathlib.Core.Path.{◌≡◌, ◌∙◌}
 use mathlib.Core.List.{List}
 use lib.Ieee.{Float}
-use borrow.Author.Rules.{rules}
-use Rattle.numbers.proofs.Fold.{fold_rows, rows_none, row_more, row_done, rows_done}
+use lib.ListN.{length}
+use Rattle.numbers.proofs.Fold.{rows_none, row_more, row_done, rows_done}
 use Rattle.numbers.proofs.Slots.{row_next, slot_row, slot_place}
-use Rattle.binary64.specs.Binary64.{◌⊕◌, f0}
-use Rattle.hex_volume.specs.Volume.{term_at, sum_of_terms}
+use Rattle.quadrature.specs.Points.{point}
+use Rattle.hex_volume.specs.Volume.{term_of, sum_over}
+use Rattle.hex_volume.proofs.sum_of_terms.Invariants.{sum_to}
 use Rattle.hex_volume.proofs.sum_of_terms.Goals as goal
 
--- the sum of all rows of terms before row r, and of its first k terms: row n i + j has the terms of points i and j
-abbrev sum_to : List Float → List Float → ℕ → ℕ → ℕ → Float
-sum_to p points n = fold_rows ◌⊕◌ f0 n (λ (r : ℕ). term_at p points (r / n) (r % n))
-
-whole : (p points : List Float) (n : ℕ) → sum_to p points n (n * n) 0 ≡ sum_of_terms p points n
-unfolding sum_of_terms
-whole p points n =
+all_rows : (p : List Float) (points : List (List Float))
+    → let n = length points in sum_to p points (n * n) 0 ≡ sum_over n (λ i j k. term_of p (point points i) (point points j) (point points k))
+unfolding sum_over
+all_rows p points =
+    let n = length points in
     let cube : n ^ 3 ≡ n * n * n = rw (pow-suc n 2, pow-suc n 1, pow-suc n 0, pow-zero, one-mul) in
     rw (rows_done, ← cube)
 
-pub loop-ir0-init : goal.loop-ir0-init
-loop-ir0-init c = (search rules, rw (mul-zero, rows_none))
+pub loop-a-init : goal.loop-a-init
+loop-a-init c = rw (mul-zero, rows_none)
 
-pub loop-ir1-init : goal.loop-ir1-init
-loop-ir1-init c = (search rules, rw add-zero c.loop-ir0.invariant.1)
+pub loop-c-preserved : goal.loop-c-preserved
+unfolding term_of
+loop-c-preserved c =
+    let n = length c.args.points.now in
+    let row_in : c.loop-b.b-index < n = c.loop-b-test.true in
+    let place_in : c.loop-c.c-index < n = c.loop-c-test.true in
+    rw (row_more, slot_row, slot_place, ← c.loop-c.invariant, c.term-sum.ensures)
 
-pub loop-ir2-preserved : goal.loop-ir2-preserved
-loop-ir2-preserved c =
-    let nq = c.args.nq in
-    let row_in : c.loop-ir1.ir1 < nq = omega arith in
-    let place_in : c.loop-ir2.ir2 < nq = omega arith in
-    (search rules, rw (row_more, slot_row, slot_place, ← c.loop-ir2.invariant.1, c.term-sum.ensures))
+pub loop-b-preserved : goal.loop-b-preserved
+loop-b-preserved c =
+    let done : c.loop-c.c-index ≡ length c.args.points.now = omega (arith, c.loop-c-test.false, c.loop-c.auto.c-index-end) in
+    rw done at c.loop-c.invariant ∙ rw (row_done, add_assoc)
 
-pub loop-ir1-preserved : goal.loop-ir1-preserved
-loop-ir1-preserved c =
-    let done : c.loop-ir2.ir2 ≡ c.args.nq = omega arith in
-    (search rules, rw done at c.loop-ir2.invariant.1 ∙ rw (row_done, add_assoc))
-
-pub loop-ir0-preserved : goal.loop-ir0-preserved
-loop-ir0-preserved c =
-    let done : c.loop-ir1.ir1 ≡ c.args.nq = omega arith in
-    (search rules, rw row_next (rw done at c.loop-ir1.invariant.1))
+pub loop-a-preserved : goal.loop-a-preserved
+loop-a-preserved c =
+    let done : c.loop-b.b-index ≡ length c.args.points.now = omega (arith, c.loop-b-test.false, c.loop-b.auto.b-index-end) in
+    rw row_next (rw done at c.loop-b.invariant)
 
 pub returns : goal.returns
 returns c =
-    let done : c.loop-ir0.ir0 ≡ c.args.nq = omega arith in
-    rw done at c.loop-ir0.invariant.1 ∙ whole _ _ _
+    let done : c.loop-a.a-index ≡ length c.args.points.now = omega (arith, c.loop-a-test.false, c.loop-a.auto.a-index-end) in
+    rw done at c.loop-a.invariant ∙ all_rows _ _
