@@ -8,32 +8,9 @@ ghost use Rattle.hex_children.specs.Children.{children};
 pub fn subdivide(corner: [u32; 8], edge: [u32; 12], quad: [u32; 6], center: u32) -> [u32; 64]
     ensures { result ≡ children corner edge quad center }
 {
-    let c0 = corner[0];
-    let c1 = corner[1];
-    let c2 = corner[2];
-    let c3 = corner[3];
-    let c4 = corner[4];
-    let c5 = corner[5];
-    let c6 = corner[6];
-    let c7 = corner[7];
-    let e0 = edge[0];
-    let e1 = edge[1];
-    let e2 = edge[2];
-    let e3 = edge[3];
-    let e4 = edge[4];
-    let e5 = edge[5];
-    let e6 = edge[6];
-    let e7 = edge[7];
-    let e8 = edge[8];
-    let e9 = edge[9];
-    let e10 = edge[10];
-    let e11 = edge[11];
-    let q0 = quad[0];
-    let q1 = quad[1];
-    let q2 = quad[2];
-    let q3 = quad[3];
-    let q4 = quad[4];
-    let q5 = quad[5];
+    let [c0, c1, c2, c3, c4, c5, c6, c7] = corner;
+    let [e0, e1, e2, e3, e4, e5, e6, e7, e8, e9, e10, e11] = edge;
+    let [q0, q1, q2, q3, q4, q5] = quad;
     let ct = center;
     [
         c0, e0, q0, e3, e8, q1, ct, q4, // (−1,−1,−1)

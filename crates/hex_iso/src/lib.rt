@@ -5,8 +5,11 @@ ghost use Rattle.std.specs.Prelude.{◌≡◌, ◌+◌, ◌*◌, ◌<◌, set};
 ghost use Rattle.numbers.specs.Bits.{bit};
 ghost use Rattle.numbers.specs.Rule.{tabulate, grid};
 ghost use Rattle.binary64.specs.Binary64.{◌!◌};
+ghost use Rattle.hexahedron.specs.Cube.{hex_sign};
 ghost use Rattle.hex_iso_mask.specs.Cut.{sign_index, mask_of};
-ghost use Rattle.hex_iso.specs.Edges.{held_on, held_between, edge_on, iso_edges};
+ghost use Rattle.hex_iso.specs.Edges.{end_on, held_between, edge_on, iso_edges};
+
+use hex_iso_position::{Cube, End};
 
 // What `iso_surface` makes its triangles of: `cubeindex`, the mask `e0`, and three floats for each of the twelve edges.
 #[derive(Drop)]
@@ -16,54 +19,29 @@ pub struct IsoEdges {
     pub positions: [f64; 36],
 }
 
-// What an edge holds: three plus infinities where the mask leaves it uncut.
-fn vert(
-    e0: u32,
-    i_edge: usize,
-    center: [f64; 3],
-    half_width: f64,
-    sign0: [f64; 3],
-    sign1: [f64; 3],
-    val0: f64,
-    val1: f64,
-) -> [f64; 3]
+// Corner i_node as an end of an edge. The table of signs is lent, so that it is laid out once and not for each end.
+fn corner(signs: &[[f64; 3]; 8], corner_value: &[f64; 8], i_node: usize) -> End
+    requires { (signs.now ≡ hex_sign) × (i_node < 8) }
+    ensures { result ≡ end_on corner_value.now i_node }
+{
+    End {
+        sign: signs[i_node],
+        value: corner_value[i_node],
+    }
+}
+
+// What an edge holds: three plus infinities, as the definition makes them, where the mask leaves it uncut.
+fn vert(e0: u32, i_edge: usize, cube: Cube, end0: End, end1: End) -> [f64; 3]
     requires { i_edge < 12 }
-    ensures { result ≡ tabulate 3 (held_on (bit e0 i_edge) center half_width sign0 sign1 val0 val1) }
+    ensures { result ≡ tabulate 3 (held_between (bit e0 i_edge) cube.center cube.half_width end0 end1) }
 {
     if (e0 >> i_edge) & 1 == 0 {
         return [1.0 / 0.0; 3];
     }
-    hex_iso_position::position(center, half_width, sign0, sign1, val0, val1)
+    cube.position(end0, end1)
 }
 
-// What the edge between two corners holds.
-fn edge_vert(
-    e0: u32,
-    i_edge: usize,
-    i0_node: usize,
-    i1_node: usize,
-    center: [f64; 3],
-    half_width: f64,
-    hex_sign: &[[f64; 3]; 8],
-    corner_value: &[f64; 8],
-) -> [f64; 3]
-    requires { (i_edge < 12) × (i0_node < 8) × (i1_node < 8) }
-    ensures { result ≡ tabulate 3 (held_between (bit e0 i_edge) center half_width hex_sign.now corner_value.now
-        i0_node i1_node) }
-{
-    vert(
-        e0,
-        i_edge,
-        center,
-        half_width,
-        hex_sign[i0_node],
-        hex_sign[i1_node],
-        corner_value[i0_node],
-        corner_value[i1_node],
-    )
-}
-
-// Stores what edge i_edge holds.
+// Stores what edge i_edge holds. C lends 36 floats in a row, and of rows that are lent out of them a proof would know no element afterwards.
 fn put_vert(vertlist: &mut [f64; 36], i_edge: usize, p: [f64; 3])
     requires { i_edge < 12 }
     ensures { vertlist.new
@@ -75,38 +53,24 @@ fn put_vert(vertlist: &mut [f64; 36], i_edge: usize, p: [f64; 3])
 }
 
 // What each edge holds, edge by edge.
-fn vert_list(
-    center: [f64; 3],
-    half_width: f64,
-    corner_value: [f64; 8],
-    e0: u32,
-    vertlist: &mut [f64; 36],
-)
+fn vert_list(cube: Cube, corner_value: [f64; 8], e0: u32, vertlist: &mut [f64; 36])
     requires { e0 ≡ mask_of (sign_index corner_value) }
-    ensures { vertlist.new ≡ grid 12 3 (edge_on center half_width corner_value) }
+    ensures { vertlist.new ≡ grid 12 3 (edge_on cube.center cube.half_width corner_value) }
 {
     // in locals, so that the tables are laid out once and not for each edge
     let edge2node = hexahedron::edge2node();
-    let hex_sign = hexahedron::hex_sign();
+    let signs = hexahedron::hex_sign();
     *vertlist = [1.0 / 0.0; 36];
-    for i_edge in 0..12usize {
-        let i0_node = edge2node[i_edge][0];
-        let i1_node = edge2node[i_edge][1];
-        let p = edge_vert(
-            e0,
-            i_edge,
-            i0_node,
-            i1_node,
-            center,
-            half_width,
-            &hex_sign,
-            &corner_value,
-        );
+    for (i_edge, &[i0_node, i1_node]) in edge2node.iter().enumerate() {
+        let end0 = corner(&signs, &corner_value, i0_node);
+        let end1 = corner(&signs, &corner_value, i1_node);
+        let p = vert(e0, i_edge, cube, end0, end1);
         put_vert(vertlist, i_edge, p);
     }
 }
 
-// `iso_surface` up to its triangles: the positions go to `vertlist`, and `cubeindex` is returned.
+// `iso_surface` up to its triangles: the positions go to `vertlist`, which C lends, and `cubeindex` is returned.
+#[tactic(auto, using(hex_iso_mask::proofs::Cut::index_below))]
 pub fn iso_edges_into(
     center: [f64; 3],
     half_width: f64,
@@ -118,7 +82,12 @@ pub fn iso_edges_into(
     ensures positions { vertlist.new ≡ (iso_edges center half_width corner_value).positions }
 {
     let cut = hex_iso_mask::iso_cut(corner_value);
-    vert_list(center, half_width, corner_value, cut.mask, vertlist);
+    vert_list(
+        Cube { center, half_width },
+        corner_value,
+        cut.mask,
+        vertlist,
+    );
     cut.index
 }
 
@@ -127,11 +96,16 @@ pub fn iso_edges(center: [f64; 3], half_width: f64, corner_value: [f64; 8]) -> I
     ensures { result ≡ iso_edges center half_width corner_value }
 {
     let cut = hex_iso_mask::iso_cut(corner_value);
-    let mut vertlist = [0.0; 36];
-    vert_list(center, half_width, corner_value, cut.mask, &mut vertlist);
+    let mut positions = [0.0; 36];
+    vert_list(
+        Cube { center, half_width },
+        corner_value,
+        cut.mask,
+        &mut positions,
+    );
     IsoEdges {
         index: cut.index,
         mask: cut.mask,
-        positions: vertlist,
+        positions,
     }
 }

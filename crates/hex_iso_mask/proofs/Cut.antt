@@ -1,10 +1,9 @@
 -- The bits of a mask are the cut edges, since it is made of them; a sign index is below 256. Assumes nothing.
-use Prim.Native.Nat.{ℕ, ◌<◌}
+use Prim.Native.Nat.{◌<◌}
 use mathlib.Core.List.{List}
-use lib.Ieee.{Float, lt}
+use lib.Ieee.{Float}
 use Rattle.numbers.proofs.Bits.{with_bits_below, bit_of_with_bits}
-use Rattle.binary64.specs.Binary64.{◌!◌, f0}
-use Rattle.hex_iso_mask.specs.Cut.{cut, sign_index, mask_of, CutEdges}
+use Rattle.hex_iso_mask.specs.Cut.{below, cut, sign_index, mask_of, CutEdges}
 
 pub cut_edges : CutEdges
 unfolding mask_of
@@ -16,4 +15,4 @@ cut_edges =
 
 pub index_below : (value : List Float) → sign_index value < 256
 unfolding sign_index
-index_below value = with_bits_below 8 (λ (k : ℕ). lt (value ! k) f0)
+index_below value = with_bits_below 8 (below value)

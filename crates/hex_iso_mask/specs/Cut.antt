@@ -3,16 +3,17 @@ use Rattle.std.specs.Prelude.{ℕ, ◌<◌, ◌^◌, ◌≡◌, Bool, cond, List
 use Rattle.std.specs.Float.Ieee.{lt, unlike}
 use Rattle.numbers.specs.Bits.{bit, with_bits}
 use Rattle.binary64.specs.Binary64.{◌!◌, f0}
-use Rattle.answer.specs.Answer.{Answer, answered, refused, LosesNothing}
+use Rattle.answer.specs.Answer.{Answer, answered, refused}
 use Rattle.cell.specs.Edges.{end}
 use Rattle.hexahedron.specs.Cube.{edges}
 use Rattle.hex_iso_mask.specs.declared.IsoCut.{IsoCut}
-use Rattle.hex_iso_mask.specs.declared.IsoMask.{IsoMask}
-use Rattle.hex_iso_mask.specs.declared.IsoMask.TheVariants.{Mask, Refused}
 
 -- "A corner's bit is set only for a value below zero: minus zero and NaN leave it clear."
+abbrev pub below : List Float → ℕ → Bool
+below value k = lt (value ! k) f0
+
 unfoldable pub sign_index : List Float → ℕ
-sign_index value = with_bits 8 (λ (k : ℕ). lt (value ! k) f0)
+sign_index value = with_bits 8 (below value)
 
 -- an edge is cut "when the two ends of edge k have different bits in the index"
 abbrev pub cut : ℕ → ℕ → Bool
@@ -25,15 +26,6 @@ mask_of index = with_bits 12 (cut index)
 -- 9 behind the 256 entries
 abbrev pub iso_mask : ℕ → Answer ℕ
 iso_mask index = cond (ltb 255 index) (refused 9) (answered (mask_of index))
-
--- the number and the value of each case
-abbrev pub mask_told : IsoMask → Answer ℕ
-mask_told (Mask m) = answered m
-mask_told (Refused n) = refused n
-
--- So the contract leaves one possible answer.
-abbrev pub MaskToldLosesNothing : Type 0
-MaskToldLosesNothing = LosesNothing mask_told
 
 -- of a cube with these corner values "the sign index", and its mask
 abbrev pub iso_cut : List Float → IsoCut

@@ -2,17 +2,13 @@
 #![tactic(auto)]
 
 ghost use Rattle.std.specs.Prelude.{◌≡◌, ◌<◌};
-ghost use Rattle.hex_iso_mask.specs.Cut.{sign_index, mask_of, iso_mask, iso_cut, mask_told};
+ghost use Rattle.answer.specs.Told.{told};
+ghost use Rattle.hex_iso_mask.specs.Cut.{sign_index, mask_of, iso_mask, iso_cut};
 
-// An entry of `ISO_EDGE`, or why there is none.
-#[derive(Drop)]
-pub enum IsoMask {
-    Mask(u32),
-    Refused(u32),
-}
+use answer::Refusal;
 
 // Of a cube `cubeindex` and its entry `e0`.
-#[derive(Drop)]
+#[derive(Clone, Copy, PartialEq)]
 pub struct IsoCut {
     pub index: u32,
     pub mask: u32,
@@ -33,23 +29,25 @@ fn cut_edges(cubeindex: u32) -> u32
     around | (upright << 8)
 }
 
-pub fn iso_mask(index: u32) -> IsoMask
-    ensures { mask_told result ≡ iso_mask index }
+// An entry of `ISO_EDGE`, or why there is none.
+pub fn iso_mask(index: u32) -> Result<u32, Refusal>
+    ensures { told result ≡ iso_mask index }
 {
     if 255 < index {
-        return IsoMask::Refused(9);
+        return Err(Refusal::Range);
     }
-    IsoMask::Mask(cut_edges(index))
+    Ok(cut_edges(index))
 }
 
 // Bit k is set where the value of corner k is below zero.
+#[tactic(auto, using(numbers::proofs::Bits::with_bits_below), unfolding(crate::specs::Cut::sign_index))]
 fn cube_index(corner_value: [f64; 8]) -> u32
     ensures value { result ≡ sign_index corner_value }
     ensures byte { result < 256 }
 {
     let mut cubeindex = 0u32;
-    for i_node_hex in 0..8usize {
-        if corner_value[i_node_hex] < 0.0 {
+    for (i_node_hex, &value) in corner_value.iter().enumerate() {
+        if value < 0.0 {
             cubeindex |= 1 << i_node_hex;
         }
     }
@@ -60,10 +58,9 @@ fn cube_index(corner_value: [f64; 8]) -> u32
 pub fn iso_cut(corner_value: [f64; 8]) -> IsoCut
     ensures { result ≡ iso_cut corner_value }
 {
-    let cubeindex = cube_index(corner_value);
-    let e0 = cut_edges(cubeindex);
+    let index = cube_index(corner_value);
     IsoCut {
-        index: cubeindex,
-        mask: e0,
+        index,
+        mask: cut_edges(index),
     }
 }

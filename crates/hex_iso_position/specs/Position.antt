@@ -1,14 +1,12 @@
 -- Where the surface of value zero cuts the line between two corners of a cube. Definitions and claims only.
-use Rattle.std.specs.Prelude.{ℕ, ◌≡◌, cond, List, [], ◌∷◌, map, ltb, Float, ℤ, neg_ℤ, ◌-ℤ◌, ◌*ℤ◌, get_or}
+use Rattle.std.specs.Prelude.{ℕ, ◌≡◌, cond, List, [], map, ltb, Float, ℤ, neg_ℤ, ◌-ℤ◌, ◌*ℤ◌, get_or}
 use Rattle.numbers.specs.Rule.{tabulate}
 use Rattle.numbers.specs.Arithmetic.{Arithmetic}
 use Rattle.integers.specs.Integers.{integers}
 use Rattle.integers.specs.Fractions.{Fraction, whole, fractions, quotient}
 use Rattle.binary64.specs.Binary64.{◌⊘◌, floats}
-use Rattle.answer.specs.Answer.{Answer, answered, refused, LosesNothing}
+use Rattle.answer.specs.Answer.{Answer, answered, refused}
 use Rattle.hexahedron.specs.Cube.{hex_sign}
-use Rattle.hex_iso_position.specs.declared.IsoPosition.{IsoPosition}
-use Rattle.hex_iso_position.specs.declared.IsoPosition.TheVariants.{At, Refused}
 
 -- `HEX_SIGN` at corner k
 abbrev pub sign : ℕ → List Float
@@ -58,12 +56,3 @@ iso_position center half_width a b v w =
     cond (ltb 7 a) (refused 9)
     (cond (ltb 7 b) (refused 9)
     (answered (tabulate 3 (position_on center half_width (sign a) (sign b) v w))))
-
--- the number and the values of each case
-abbrev pub position_told : IsoPosition → Answer (List Float)
-position_told (At x y z) = answered (x ∷ y ∷ z ∷ [])
-position_told (Refused n) = refused n
-
--- So the contract leaves one possible answer.
-abbrev pub PositionToldLosesNothing : Type 0
-PositionToldLosesNothing = LosesNothing position_told

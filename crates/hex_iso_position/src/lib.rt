@@ -1,16 +1,27 @@
 // hex.rs: `iso_position_on_edge`, where the surface of value zero cuts the line between two corners of a cube.
 #![tactic(auto)]
 
-ghost use Rattle.std.specs.Prelude.{◌≡◌, cond, ◌<◌, eqb};
+ghost use Rattle.std.specs.Prelude.{◌≡◌, ◌<◌, ◌==◌, if◌then◌else◌};
 ghost use Rattle.numbers.specs.Rule.{tabulate};
 ghost use Rattle.binary64.specs.Binary64.{f1, m1};
-ghost use Rattle.hex_iso_position.specs.Position.{sign, node_on, position_on, iso_position, position_told};
+ghost use Rattle.answer.specs.Told.{told};
+ghost use Rattle.hex_iso_position.specs.Position.{sign, node_on, position_on, iso_position};
 
-// A place on an edge, or why there is none.
-#[derive(Drop)]
-pub enum IsoPosition {
-    At(f64, f64, f64),
-    Refused(u32),
+use answer::Refusal;
+use std::array::from_fn;
+
+// A cube in space.
+#[derive(Clone, Copy)]
+pub struct Cube {
+    pub center: [f64; 3],
+    pub half_width: f64,
+}
+
+// An end of a line: the sign of a corner, and the value there.
+#[derive(Clone, Copy)]
+pub struct End {
+    pub sign: [f64; 3],
+    pub value: f64,
 }
 
 // The two signs.
@@ -20,7 +31,7 @@ const UPPER: f64 = 1.;
 
 // An axis of a corner's sign, by whether it has a certain bit.
 fn side(bit: usize) -> f64
-    ensures { result ≡ cond (eqb bit 0) m1 f1 }
+    ensures { result ≡ (if bit == 0 then m1 else f1) }
 {
     if bit == 0 { LOWER } else { UPPER }
 }
@@ -33,56 +44,52 @@ fn sign_of(i_node: usize) -> [f64; 3]
     [side((i_node + 1) & 2), side(i_node & 2), side(i_node & 4)]
 }
 
-// `HEX_SIGN[i_node].scale(hw).add(&cent)`
-fn node(sign: [f64; 3], hw: f64, cent: [f64; 3]) -> [f64; 3]
-    ensures { result ≡ tabulate 3 (node_on cent hw sign) }
-{
-    [
-        sign[0] * hw + cent[0],
-        sign[1] * hw + cent[1],
-        sign[2] * hw + cent[2],
-    ]
-}
+impl Cube {
+    // `HEX_SIGN[i_node].scale(hw).add(&cent)`
+    fn node(self, sign: [f64; 3]) -> [f64; 3]
+        ensures { result ≡ tabulate 3 (node_on self.center self.half_width sign) }
+    {
+        from_fn(|i| sign[i] * self.half_width + self.center[i])
+    }
 
-// The position between the corners with these signs.
-pub fn position(
-    cent: [f64; 3],
-    hw: f64,
-    sign0: [f64; 3],
-    sign1: [f64; 3],
-    val0: f64,
-    val1: f64,
-) -> [f64; 3]
-    ensures { result ≡ tabulate 3 (position_on cent hw sign0 sign1 val0 val1) }
-{
-    let p0 = node(sign0, hw, cent);
-    let p1 = node(sign1, hw, cent);
-    let denom = val1 - val0;
-    let r0 = val1 / denom;
-    let r1 = -val0 / denom;
-    [
-        p0[0] * r0 + p1[0] * r1,
-        p0[1] * r0 + p1[1] * r1,
-        p0[2] * r0 + p1[2] * r1,
-    ]
+    // The position between two corners.
+    pub fn position(self, end0: End, end1: End) -> [f64; 3]
+        ensures { result
+            ≡ tabulate 3 (position_on self.center self.half_width end0.sign end1.sign end0.value end1.value) }
+    {
+        let p0 = self.node(end0.sign);
+        let p1 = self.node(end1.sign);
+        let denom = end1.value - end0.value;
+        let r0 = end1.value / denom;
+        let r1 = -end0.value / denom;
+        from_fn(|i| p0[i] * r0 + p1[i] * r1)
+    }
 }
 
 pub fn iso_position_on_edge(
-    cent: [f64; 3],
-    hw: f64,
+    center: [f64; 3],
+    half_width: f64,
     i0_node: usize,
     i1_node: usize,
     val0: f64,
     val1: f64,
-) -> IsoPosition
-    ensures { position_told result ≡ iso_position cent hw i0_node i1_node val0 val1 }
+) -> Result<[f64; 3], Refusal>
+    ensures { told result ≡ iso_position center half_width i0_node i1_node val0 val1 }
 {
     if 7 < i0_node {
-        return IsoPosition::Refused(9);
+        return Err(Refusal::Range);
     }
     if 7 < i1_node {
-        return IsoPosition::Refused(9);
+        return Err(Refusal::Range);
     }
-    let p = position(cent, hw, sign_of(i0_node), sign_of(i1_node), val0, val1);
-    IsoPosition::At(p[0], p[1], p[2])
+    let cube = Cube { center, half_width };
+    let end0 = End {
+        sign: sign_of(i0_node),
+        value: val0,
+    };
+    let end1 = End {
+        sign: sign_of(i1_node),
+        value: val1,
+    };
+    Ok(cube.position(end0, end1))
 }

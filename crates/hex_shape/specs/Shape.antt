@@ -1,10 +1,10 @@
 -- The shape values of the cube and their slopes. A place is three numbers. Definitions and claims only.
 use Rattle.std.specs.Prelude.{ℕ, Bool, cond, List, [], ◌∷◌, Float, pos}
-use Rattle.numbers.specs.Rule.{without}
+use Rattle.numbers.specs.Rule.{tabulate, without}
 use Rattle.numbers.specs.Arithmetic.{Arithmetic}
 use Rattle.integers.specs.Integers.{integers}
 use Rattle.integers.specs.Slopes.{SlopesOf}
-use Rattle.binary64.specs.Binary64.{◌⊗◌, ◌⊘◌, f1, f2, floats}
+use Rattle.binary64.specs.Binary64.{◌⊗◌, ◌⊘◌, ◌!◌, f1, f2, floats}
 use Rattle.cell.specs.Shape.{values_by, slopes_by, OneAtItsCorner}
 use Rattle.hexahedron.specs.Cube.{upper, hex_sign}
 
@@ -42,6 +42,10 @@ module _ {A : Type 0} (a : Arithmetic A) where
 
 abbrev pub side : Bool → Float → Float
 side up r = side_in floats up r
+
+-- the lower or the upper sides of the three axes
+abbrev pub sides : Bool → List Float → List Float
+sides up q = tabulate 3 (λ (i : ℕ). side up (q ! i))
 
 abbrev pub shape_at : List Float → ℕ → Float
 shape_at q k = shape_in floats one8 q k

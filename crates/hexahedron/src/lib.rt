@@ -39,7 +39,7 @@ pub const IDX2NODE: [usize; 24] = [
     4, 5, 6, 7, // face 5, top
 ];
 
-// The tables as values, so that a contract holds their rows.
+// The tables as values: a constant has no contract, and these hold the rows.
 pub fn hex_sign() -> [[f64; 3]; 8]
     ensures { result ≡ hex_sign }
 {

@@ -16,7 +16,7 @@ pub const EDGE2NODE: [[usize; 2]; 9] = [
     [2, 5], // edge 8
 ];
 
-// The table as a value, so that a contract holds its rows.
+// The table as a value: a constant has no contract, and this one holds the rows.
 pub fn edge2node() -> [[usize; 2]; 9]
     ensures { result ≡ edges }
 {

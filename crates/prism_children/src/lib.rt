@@ -10,24 +10,9 @@ ghost use Rattle.prism_children.specs.Children.{children};
 pub fn subdivide(corner: [u32; 6], edge: [u32; 9], quad: [u32; 3]) -> [u32; 48]
     ensures { result ≡ children corner edge quad }
 {
-    let c0 = corner[0];
-    let c1 = corner[1];
-    let c2 = corner[2];
-    let c3 = corner[3];
-    let c4 = corner[4];
-    let c5 = corner[5];
-    let e0 = edge[0];
-    let e1 = edge[1];
-    let e2 = edge[2];
-    let e3 = edge[3];
-    let e4 = edge[4];
-    let e5 = edge[5];
-    let e6 = edge[6];
-    let e7 = edge[7];
-    let e8 = edge[8];
-    let q0 = quad[0];
-    let q1 = quad[1];
-    let q2 = quad[2];
+    let [c0, c1, c2, c3, c4, c5] = corner;
+    let [e0, e1, e2, e3, e4, e5, e6, e7, e8] = edge;
+    let [q0, q1, q2] = quad;
     [
         c0, e0, e2, e6, q0, q2, // col A (corner 0), bottom half
         e0, c1, e1, q0, e7, q1, // col B (corner 1), bottom half

@@ -8,9 +8,7 @@ pub fn shapefunc(pco: [f64; 3]) -> [f64; 6]
     ensures { result ≡ shape pco }
 {
     let one = 1.0;
-    let r = pco[0];
-    let s = pco[1];
-    let t = pco[2];
+    let [r, s, t] = pco;
     let tm = one - t;
     let rs = one - r - s;
     [rs * tm, r * tm, s * tm, rs * t, r * t, s * t]
@@ -21,9 +19,7 @@ pub fn dndr(pco: [f64; 3]) -> [f64; 18]
 {
     let zero = 0.0;
     let one = 1.0;
-    let r = pco[0];
-    let s = pco[1];
-    let t = pco[2];
+    let [r, s, t] = pco;
     [
         -one + t,
         -one + t,

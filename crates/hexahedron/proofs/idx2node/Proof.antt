@@ -1,7 +1,0 @@
--- `hex::idx2node` meets its contract: the rows are the definition's. Assumes nothing.
-use mathlib.Core.Path.{refl}
-use Rattle.hexahedron.proofs.idx2node.Statement.{statement}
-use Rattle.hexahedron.proofs.idx2node.Tie as tie
-
-pub idx2node_spec : {M : Type 1} → statement M
-idx2node_spec = tie.close (tie.spec (λ c. refl))
