@@ -14,17 +14,17 @@ use Rattle.cell.specs.Newton.{coords}
 use Rattle.cell.specs.declared.Point.{Point}
 use Rattle.hex_image.specs.Image.{image_at}
 use Rattle.hex_locate.specs.Locate.{within, inside, located}
-use Rattle.probe.specs.Check.{good_corner, good_corners, good_tolerance, near_on, near, checked, kept_if_near, located_checked, told, place_told}
+use Rattle.probe.specs.Check.{good_corner, good_corners, good_tolerance, near_on, near, checked, kept_if_near, located_checked}
 use Rattle.probe.specs.Exact.{AtMostTPlusE, AtMostTMinusE}
 use Rattle.probe.specs.Demand.{AcceptedIsNear, NearIsAccepted, Floats, Demand3}
-use Rattle.probe.specs.declared.Verdict.{Verdict}
-use Rattle.probe.specs.declared.Verdict.TheVariants.{Accepted}
-use Rattle.probe.specs.declared.Checked.{Checked}
+use Rattle.std.specs.Prelude.{Result, Ok}
+use Rattle.answer.specs.Told.{told}
+use Rattle.answer.specs.declared.Refusal.{Refusal}
+use Rattle.answer.proofs.Told.{told_loses_nothing}
 use Rattle.answer.proofs.Answers.{passed, pass, then_answered, answered_same}
 use Rattle.probe.proofs.Image.{Good, Place, image_balance, image_close}
 use Rattle.probe.proofs.Inputs.{coordinate, good, tolerance, each_axis, all_axes}
 use Rattle.probe.proofs.Located.{located_inside, located_fits}
-use Rattle.probe.proofs.Told.{told_loses_nothing}
 use Rattle.rounding.proofs.Accept.{accepted_near, near_accepted}
 
 -- ---- of the test on the three axes, for inputs that refusals 3, 4 and 5 let pass
@@ -108,22 +108,22 @@ demand =
     }
 
 -- ---- the promises of the two functions, from what is told of their answers
-pub check_promises : (p : List Float) (at : Point) (t : Float) (r : Verdict) → Floats 24 p → Floats 3 (coords at) → T (fits binary64 t)
+pub check_promises : (p : List Float) (at : Point) (t : Float) (r : Result (Unit {0}) Refusal) → Floats 24 p → Floats 3 (coords at) → T (fits binary64 t)
     → told r ≡ checked p (coords at) t
-    → (told r ≡ checked p (coords at) t) × (AcceptedIsNear (r ≡ Accepted) p (coords at) t
-    × (T (inside (coords at)) → NearIsAccepted (r ≡ Accepted) p (coords at) t))
+    → (told r ≡ checked p (coords at) t) × (AcceptedIsNear (r ≡ Ok tt) p (coords at) t
+    × (T (inside (coords at)) → NearIsAccepted (r ≡ Ok tt) p (coords at) t))
 check_promises p at t r p_fits q_fits t_fits e =
     let q = coords at in (
       e,
       (
         λ accepted. checked_sound p q t p_fits q_fits t_fits (sym e ∙ ap told accepted),
-        λ place corners tol well. told_loses_nothing r Accepted (e ∙ checked_complete p q t p_fits q_fits t_fits place corners tol well),
+        λ place corners tol well. told_loses_nothing (Unit {0}) r (Ok tt) (e ∙ checked_complete p q t p_fits q_fits t_fits place corners tol well),
       ),
     )
 
-pub locate_promises : (p : List Float) (t : Float) (r : Checked) → Floats 24 p → T (fits binary64 t) → place_told r ≡ located_checked p t
-    → (place_told r ≡ located_checked p t) × (((q : List Float) → AcceptedIsNear (place_told r ≡ answered q) p q t)
-    × ((q : List Float) → located p ≡ answered q → NearIsAccepted (place_told r ≡ answered q) p q t))
+pub locate_promises : (p : List Float) (t : Float) (r : Result (List Float) Refusal) → Floats 24 p → T (fits binary64 t) → told r ≡ located_checked p t
+    → (told r ≡ located_checked p t) × (((q : List Float) → AcceptedIsNear (told r ≡ answered q) p q t)
+    × ((q : List Float) → located p ≡ answered q → NearIsAccepted (told r ≡ answered q) p q t))
 locate_promises p t r p_fits t_fits e = (
   e,
   (

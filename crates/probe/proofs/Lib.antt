@@ -5,5 +5,5 @@ pub mod Inputs
 pub mod Located
 pub mod Refusals
 pub mod Shape
-pub mod Told
 pub mod Weights
+pub mod Ladders

@@ -8,10 +8,11 @@ use Rattle.answer.specs.Answer.{answered, number_of, RefusesBy}
 use Rattle.answer.proofs.Answers.{refuses_unless, refuses_then, zero_tells_an_answer}
 use Rattle.hex_locate.specs.Locate.{inside, located}
 use Rattle.hex_locate.proofs.Refusals.{located_refuses}
-use Rattle.probe.specs.Check.{good_corners, good_tolerance, near, checked, kept_if_near, located_checked, told}
-use Rattle.probe.specs.declared.Verdict.{Verdict}
-use Rattle.probe.specs.declared.Verdict.TheVariants.{Accepted}
-use Rattle.probe.proofs.Told.{told_loses_nothing}
+use Rattle.probe.specs.Check.{good_corners, good_tolerance, near, checked, kept_if_near, located_checked}
+use Rattle.std.specs.Prelude.{Result, Ok}
+use Rattle.answer.specs.Told.{told}
+use Rattle.answer.specs.declared.Refusal.{Refusal}
+use Rattle.answer.proofs.Told.{told_loses_nothing}
 
 abbrev of_check : List ℕ
 of_check = 3 ∷ 4 ∷ 5 ∷ 6 ∷ []
@@ -39,5 +40,5 @@ located_checked_refuses p t =
     (λ q. refuses_unless of_locator (not (near p q t)) 6 (answered q) tt tt)))
 
 -- so a verdict of which 0 is told is an acceptance
-pub accepted_by_zero : (p q : List Float) (t : Float) (v : Verdict) → told v ≡ checked p q t → number_of (told v) ≡ 0 → v ≡ Accepted
-accepted_by_zero p q t v e zero = told_loses_nothing v Accepted (e ∙ zero_accepts p q t (ap number_of (sym e) ∙ zero))
+pub accepted_by_zero : (p q : List Float) (t : Float) (v : Result (Unit {0}) Refusal) → told v ≡ checked p q t → number_of (told v) ≡ 0 → v ≡ Ok tt
+accepted_by_zero p q t v e zero = told_loses_nothing (Unit {0}) v (Ok tt) (e ∙ zero_accepts p q t (ap number_of (sym e) ∙ zero))

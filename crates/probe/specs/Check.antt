@@ -1,14 +1,12 @@
 -- The distance check of a place in a hexahedron of 24 floats, and the locator that is followed by it. Definitions only.
-use Rattle.std.specs.Prelude.{ℕ, Bool, not, cond, ◌&&◌, ◌||◌, List, [], ◌∷◌, Float}
+use Rattle.std.specs.Prelude.{ℕ, Bool, not, cond, ◌&&◌, ◌||◌, List, Float}
 use Rattle.std.specs.Float.{binary64}
 use Rattle.std.specs.Float.Ieee.{of_bits, neg, le, lt}
 use Rattle.numbers.specs.Rule.{all}
 use Rattle.binary64.specs.Binary64.{◌!◌, f0, infinity, is_zero}
-use Rattle.answer.specs.Answer.{Answer, answered, refused, and_then, LosesNothing}
+use Rattle.answer.specs.Answer.{Answer, answered, refused, and_then}
 use Rattle.hex_image.specs.Image.{image_at}
 use Rattle.hex_locate.specs.Locate.{inside, located}
-use Rattle.probe.specs.declared.Verdict.{Verdict}
-use Rattle.probe.specs.declared.Checked.{Checked}
 
 -- 2 ^ -100 and 2 ^ 100
 abbrev pub least : Float
@@ -38,6 +36,10 @@ near_on t x = le x t && le (neg x) t
 abbrev pub near : List Float → List Float → Float → Bool
 near p q t = near_on t (image_at p q ! 0) && near_on t (image_at p q ! 1) && near_on t (image_at p q ! 2)
 
+-- the two rungs with which both ladders begin
+abbrev pub good_inputs : List Float → Float → Answer (Unit {0})
+good_inputs p t = cond (not (good_corners p)) (refused 3) (cond (not (good_tolerance t)) (refused 4) (answered tt))
+
 -- "Order. Check: 3, 4, 5, 6." An acceptance has no values. 5, "a proposed coordinate not in [-1,1], or NaN", goes by Newton's own inside test.
 unfoldable pub checked : List Float → List Float → Float → Answer (Unit {0})
 checked p q t =
@@ -57,19 +59,3 @@ located_checked p t =
     cond (not (good_corners p)) (refused 3)
     (cond (not (good_tolerance t)) (refused 4)
     (and_then (located p) (kept_if_near p t)))
-
--- the number and the values of each case of the two answers
-abbrev pub told : Verdict → Answer (Unit {0})
-told Verdict.Accepted = answered tt
-told (Verdict.Refused n) = refused n
-
-abbrev pub place_told : Checked → Answer (List Float)
-place_told (Checked.Inside r s t) = answered (r ∷ s ∷ t ∷ [])
-place_told (Checked.Refused n) = refused n
-
--- So the contracts leave one possible answer.
-abbrev pub ToldLosesNothing : Type 0
-ToldLosesNothing = LosesNothing told
-
-abbrev pub PlaceToldLosesNothing : Type 0
-PlaceToldLosesNothing = LosesNothing place_told

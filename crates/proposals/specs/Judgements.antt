@@ -1,12 +1,10 @@
 -- A list of proposals, each judged by the distance check against one cell. Definitions and claims only.
 use Rattle.std.specs.Prelude.{ℕ, cond, List, map, eqb, ltb, Float, length}
 use Rattle.numbers.specs.Rule.{sum_over}
-use Rattle.answer.specs.Answer.{Answer, answered, refused, and_then, number_of, LosesNothing}
+use Rattle.answer.specs.Answer.{Answer, answered, refused, and_then, number_of}
 use Rattle.cell.specs.Newton.{coords}
 use Rattle.probe.specs.Check.{checked}
 use Rattle.proposals.specs.declared.Proposal.{Proposal}
-use Rattle.proposals.specs.declared.Judged.{Judged}
-use Rattle.proposals.specs.declared.Judged.TheVariants.{Accepted, Refused}
 
 -- "it writes 0 or the refusal number per record", "each a coordinate and a tolerance": the check's
 unfoldable pub judgement : List Float → Proposal → ℕ
@@ -26,12 +24,3 @@ zeros js = sum_over (λ (j : ℕ). cond (eqb j 0) 1 0) js
 
 abbrev pub zeros_in : Answer (List ℕ) → Answer ℕ
 zeros_in found = and_then found (λ (js : List ℕ). answered (zeros js))
-
--- the number or the count of each case
-abbrev pub told : Judged → Answer ℕ
-told (Accepted n) = answered n
-told (Refused n) = refused n
-
--- So the contract leaves one possible answer.
-abbrev pub ToldLosesNothing : Type 0
-ToldLosesNothing = LosesNothing told

@@ -10,4 +10,4 @@ returns c =
     let corners = c.args.corners in
     let all = locate_promises corners c.args.tolerance c.locate.result (array_fits binary64 24 corners _ c.well_formed.0)
     (passes _ c.well_formed.1.0.1) c.locate.ensures in
-    record { result_value = all.0; sound = all.1.0; complete = all.1.1 }
+    record { value = all.0; sound = all.1.0; complete = all.1.1 }

@@ -1,6 +1,6 @@
 -- `proposals::check_proposals`: before turn i the first i numbers are written over by the judgements, the zeros among these are counted, and each keeps
 -- both halves of demand 3. Assumes nothing.
-use Prim.Native.Nat.{ℕ, ◌-◌, ◌≤◌, ◌<◌}
+use Prim.Native.Nat.{ℕ, ◌≤◌, ◌<◌}
 use mathlib.Core.Path.{◌≡◌}
 use mathlib.Core.List.{map}
 use lib.ListN.{take}
@@ -13,11 +13,8 @@ use Rattle.proposals.proofs.check_proposals.Given as goal
 abbrev pub invariant-loop-i : goal.invariant-loop-i
 invariant-loop-i l =
     record {
-      within : l.i ≤ l.turns;
+      within : l.i ≤ l.n;
       written : l.out ≡ overwritten (map (judgement l.corners) l.list) l.initial.out l.i;
       counted : l.accepted ≡ zeros (take l.i (map (judgement l.corners) l.list));
       kept : (k : ℕ) → k < l.i → Owed l.corners (proposal l.list k) (judgement l.corners (proposal l.list k));
     }
-
-abbrev pub decreases-loop-i : goal.decreases-loop-i
-decreases-loop-i l = l.turns - l.i
