@@ -1,18 +1,22 @@
 -- The first fault of some cells, one cell at a time; and that cells without a fault are sound. Assumes nothing.
-use Prim.Native.Nat.{ℕ, zero, suc, ◌+◌, ◌/◌, ◌≤◌, ◌<◌}
+use Prim.Native.Nat.{ℕ, zero, suc, ◌+◌, ◌*◌, ◌/◌, ◌≤◌, ◌<◌}
 use native.Mathlib.Nat.{eq-or-lt_of_le, le_of_suc-le-suc, not-suc-le-zero}
 use native.Mathlib.Numerals.{add-one}
 use native.Mathlib.Omega.{arith}
 use mathlib.Core.Path.{◌≡◌, refl, sym, ◌∙◌, ap}
 use mathlib.Core.Logic.{⊎_elim}
 use mathlib.Core.Bool.{Bool, true, false, cond, not}
-use mathlib.Core.List.{List}
+use mathlib.Core.List.{List, []}
 use lib.Dec.{eqb, ltb, eqb-suc-zero}
-use lib.ListN.{length}
+use lib.ListN.{length, get_or, drop}
+use lib.Seq.{get_or-drop}
 use borrow.Author.Tests.{ne_eqb, eqb-false, ltb-true, lt-ltb, not-true}
-use Rattle.numbers.specs.Rule.{tabulate}
 use Rattle.numbers.proofs.All.{all_each, all_where, all_alike}
-use Rattle.numbers.proofs.Tabulate.{tabulate_at}
+use Rattle.std.specs.Simd.{first_chunks}
+use Rattle.std.proofs.lemmas.List.{get_or-take}
+use Rattle.answer.specs.Told.{number}
+use Rattle.answer.specs.declared.Refusal.{Refusal}
+use Rattle.answer.specs.declared.Refusal.TheVariants.{Flat, Outside, Corner, Tolerance, Coordinate, TooFar, Limit, Length, Range, Twice, Mark, Version, FileLength, Twisted, OffGrid}
 use Rattle.faults.specs.Faults.{node, names, differs, new_at, in_range, different, fault, fault_at, or_else, first_to, first_fault, Sound, FaultlessIsSound}
 
 no_test : (a b : Bool) → ◌≡◌ {A = ℕ} (cond a (cond b 0 10) 9) 0 → (a ≡ true) × (b ≡ true)
@@ -78,34 +82,44 @@ module _ (n k : ℕ) (cells : List ℕ) where
   none_first zero f = refl
   none_first (suc d) f = rw (none_first d (λ c h. f c (omega arith)), f d (omega arith))
 
--- what a search holds that looks at m cells, each in a copy, until there is a fault: f is the first of the c that it has looked at
-pub record Looked (n k : ℕ) (cells : List ℕ) (m c f : ℕ) : Type 0 where
-  pub whole : length cells / k ≡ m
-  pub within : c ≤ m
-  pub first : first_to n k cells c ≡ f
-
-module _ {n k : ℕ} {cells : List ℕ} {m : ℕ} where
-  pub looked_none : length cells / k ≡ m → Looked n k cells m 0 0
-  unfolding first_to
-  looked_none whole = record { whole = whole; within = omega arith; first = refl }
-
-  pub looked_more : {c f : ℕ} (g : ℕ) (cell : List ℕ) (name : ℕ → ℕ) → Looked n k cells m c f → f ≡ 0 → c < m
-      → ((j : ℕ) → j < k → name j ≡ node k cells c j) → cell ≡ tabulate k name → g ≡ fault n k (names cell) → Looked n k cells m (c + 1) g
+-- a search looks at the cells in turn, each in a copy, and none of the first c has a fault
+module _ (n k : ℕ) (cells : List ℕ) (c : ℕ) (name : ℕ → ℕ) (none : first_to n k cells c ≡ 0) (same : (j : ℕ) → j < k → name j ≡ node k cells c j) where
+  here : first_to n k cells (suc c) ≡ fault n k name
   unfolding first_to fault_at
-  looked_more {c} {f} g cell name l none below same copy e =
-      let read : (j : ℕ) → j < k → names (tabulate k name) j ≡ node k cells c j = λ j h. tabulate_at k name 0 j h ∙ same j h in
-      record {
-        whole = l.whole;
-        within = omega arith;
-        first = rw (add-one, l.first, none, e, copy) (sym (fault_alike n k (names (tabulate k name)) (node k cells c) read));
-      }
+  here = rw none (sym (fault_alike n k name (node k cells c) same))
 
-  -- the first fault of all: one that was found, or the one held behind the last cell
-  pub looked_found : {c f : ℕ} → Looked n k cells m c f → (f ≡ 0 → ⊥) → f ≡ first_fault n k cells
-  looked_found {c} {f} l some = sym (first_stays n k cells c (length cells / k) f (omega (arith, l.whole, l.within)) some l.first)
+  pub looked_more : fault n k name ≡ 0 → first_to n k cells (c + 1) ≡ 0
+  looked_more e = rw add-one (here ∙ e)
 
-  pub looked_all : {c f : ℕ} → Looked n k cells m c f → m ≤ c → f ≡ first_fault n k cells
-  looked_all {c} {f} l last = let all : c ≡ length cells / k = omega (arith, l.whole, l.within) in sym (rw all at l.first)
+  -- the first fault of all is the one found
+  pub looked_found : (f : ℕ) → (f ≡ 0 → ⊥) → f ≡ fault n k name → c < length cells / k → f ≡ first_fault n k cells
+  looked_found f some e below = sym (first_stays n k cells (suc c) (length cells / k) f (omega arith) some (here ∙ sym e))
+
+-- a refusal's number is none that says that there is no fault
+pub refuses : (r : Refusal) → number r ≡ 0 → ⊥
+refuses Flat e = omega arith
+refuses Outside e = omega arith
+refuses Corner e = omega arith
+refuses Tolerance e = omega arith
+refuses Coordinate e = omega arith
+refuses TooFar e = omega arith
+refuses Limit e = omega arith
+refuses Length e = omega arith
+refuses Range e = omega arith
+refuses Twice e = omega arith
+refuses Mark e = omega arith
+refuses Version e = omega arith
+refuses FileLength e = omega arith
+refuses Twisted e = omega arith
+refuses OffGrid e = omega arith
+
+-- the nodes of a list that is taken k at a time
+pub taken : (k m : ℕ) (cells : List ℕ) (c : ℕ) → c < m → (j : ℕ) → j < k → names (get_or (first_chunks k m cells) c []) j ≡ node k cells c j
+taken k zero cells c h j l = absurd (not-suc-le-zero h)
+taken k (suc m) cells zero h j l = let at : j ≡ k * 0 + j = omega arith in get_or-take k cells j 0 l ∙ ap (λ (i : ℕ). get_or cells i 0) at
+taken k (suc m) cells (suc c) h j l =
+    let at : k + (k * c + j) ≡ k * suc c + j = omega arith in
+    taken k m (drop k cells) c (le_of_suc-le-suc h) j l ∙ get_or-drop k cells (k * c + j) 0 ∙ ap (λ (i : ℕ). get_or cells i 0) at
 
 pub faultless_is_sound : FaultlessIsSound
 unfolding fault_at

@@ -15,15 +15,7 @@ use Rattle.answer.specs.Answer.{refused}
 use Rattle.binary64.specs.Exact.{size, one}
 use Rattle.rounding.proofs.Units.{Is, is_of_value}
 use Rattle.grid_number.specs.Grid.{grid_number}
-use Rattle.grid_number.specs.Told.{ToldLosesNothing}
-use Rattle.grid_number.specs.declared.GridNumber.TheVariants.{Whole, OffGrid}
 use Rattle.grid_number.proofs.Units.{by_units_lem, over}
-
-pub told_loses_nothing : ToldLosesNothing
-told_loses_nothing (Whole x) (Whole y) h = cc
-told_loses_nothing (Whole x) OffGrid h = cc
-told_loses_nothing OffGrid (Whole y) h = cc
-told_loses_nothing OffGrid OffGrid h = refl
 
 -- the field of the exponent, the field of the digits, and the sign
 abbrev exponent : ℕ → ℕ

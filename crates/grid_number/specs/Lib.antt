@@ -1,2 +1,1 @@
 pub mod Grid
-pub mod Told

@@ -1,29 +1,25 @@
 -- The tests that an accepted file has passed, and what reading it leaves. Assumes nothing.
-use Prim.Native.Nat.{ℕ, ◌+◌, ◌*◌, ◌≤◌, ◌<◌}
+use Prim.Native.Nat.{ℕ, ◌+◌, ◌*◌, ◌≤◌}
 use native.Mathlib.Omega.{arith}
-use mathlib.Core.Path.{◌≡◌, refl, ◌∙◌, ap, subst}
+use mathlib.Core.Path.{◌≡◌, refl, sym, ◌∙◌, ap, subst}
 use mathlib.Core.Bool.{Bool, true, false, not, ◌||◌, cond}
-use mathlib.Core.List.{List, [], ◌∷◌, ◌++◌}
+use Rattle.std.specs.Prelude.{Ok, Err}
+use mathlib.Core.List.{List, ◌++◌}
 use lib.Dec.{eqb, ltb}
 use lib.ListN.{length, take, drop}
 use lib.Seq.{take_at}
-use borrow.Author.Tests.{lt-ltb, le-ltb, eq-eqb, ltb-false, eqb-true, not-false}
+use borrow.Author.Tests.{le-ltb, eq-eqb, ltb-false, eqb-true, not-false}
 use Rattle.numbers.specs.Rule.{tabulate}
 use Rattle.numbers.specs.Little.{number_at, numbers_at}
 use Rattle.numbers.proofs.Stored.{length_tabulate}
 use Rattle.answer.specs.Answer.{Answer, answered, refused}
-use Rattle.answer.proofs.Answers.{unless, then_unless, then_refused}
-use Rattle.faults.specs.Faults.{first_fault}
-use Rattle.hxm.specs.Format.{most_nodes, most_cells, most_words, most_numbers, node_words, cell_numbers, node_bytes, cell_bytes, Mesh, head_length}
+use Rattle.answer.proofs.Answers.{never, unless, then_refused}
+use Rattle.hxm.specs.Format.{most_nodes, most_cells, most_words, most_numbers, node_words, cell_numbers, Mesh, head_length}
 use Rattle.hxm.specs.Format.{version, node_count, cell_count, cells_from, file_length, marked, fault_of, mesh_at, mesh_of}
-use Rattle.hxm.specs.Reads.{counts, mesh_into, Reads, ToldLosesNothing}
-use Rattle.hxm.specs.declared.Reading.TheVariants.{Mesh as Counts, Refused}
-
-pub told_loses_nothing : ToldLosesNothing
-told_loses_nothing (Counts m c) (Counts n d) h = cc
-told_loses_nothing (Counts m c) (Refused k) h = cc
-told_loses_nothing (Refused k) (Counts n d) h = cc
-told_loses_nothing (Refused k) (Refused l) h = cc
+use Rattle.answer.specs.Told.{number}
+use Rattle.answer.specs.declared.Refusal.{Refusal}
+use Rattle.hxm.specs.Reads.{counts_in, listed, counts, mesh_into, Reads}
+use Rattle.hxm.specs.declared.Counts.{Counts}
 
 pub record Passed (s : List ℕ) : Type 0 where
   pub long : 13 ≤ length s
@@ -83,26 +79,9 @@ passed_accepted s p =
       eq-eqb (fault_of s) 0 p.faultless,
     )
 
--- the ladder behind the first rung, over what the head says, from its last rungs up
-abbrev pub fault_by : List ℕ → ℕ → ℕ → ℕ
-fault_by s n c = first_fault n cell_numbers (numbers_at s 4 (head_length + node_bytes * n) (cell_numbers * c))
-
-abbrev pub by_fault : List ℕ → ℕ → ℕ → Answer (List ℕ)
-by_fault s n c = cond (not (eqb (fault_by s n c) 0)) (refused (fault_by s n c)) (answered (n ∷ c ∷ []))
-
-abbrev pub by_length : List ℕ → ℕ → ℕ → Answer (List ℕ)
-by_length s n c = cond (not (eqb (length s) (head_length + node_bytes * n + cell_bytes * c))) (refused 13) (by_fault s n c)
-
-abbrev pub by_limits : List ℕ → ℕ → ℕ → Answer (List ℕ)
-by_limits s n c = cond (ltb most_nodes n || ltb most_cells c) (refused 7) (by_length s n c)
-
-abbrev pub rungs : List ℕ → Bool → ℕ → ℕ → ℕ → Answer (List ℕ)
-rungs s mark v n c = cond (not mark) (refused 11) (cond (not (eqb v 1)) (refused 12) (by_limits s n c))
-
-pub climbed : (s : List ℕ) (mark : Bool) (v n c : ℕ) → 13 ≤ length s → mark ≡ marked s → v ≡ version s → n ≡ node_count s → c ≡ cell_count s
-    → counts (mesh_of s) ≡ rungs s mark v n c
-unfolding mesh_of fault_of mesh_at
-climbed s mark v n c long em ev en ec = rw (le-ltb (length s) 13 long, em, ev, en, ec) (simp then_unless)
+-- the two counts
+abbrev pub both : ℕ → ℕ → Counts
+both n c = record { nodes = n; cells = c }
 
 -- what the counts of an answer say of the file
 pub record Counted (s : List ℕ) (n c : ℕ) : Type 0 where
@@ -110,22 +89,22 @@ pub record Counted (s : List ℕ) (n c : ℕ) : Type 0 where
   pub nodes : node_count s ≡ n
   pub cells : cell_count s ≡ c
 
-pub counted : (s : List ℕ) (n c : ℕ) → answered (n ∷ c ∷ []) ≡ counts (mesh_of s) → Counted s n c
+pub counted : (s : List ℕ) (k : Counts) → answered k ≡ counts_in (mesh_of s) → Counted s k.nodes k.cells
 unfolding mesh_at
-counted s n c e = by (mesh_of s) refl e
+counted s k e = by (mesh_of s) refl e
   where
-    by : (found : Answer Mesh) → mesh_of s ≡ found → answered (n ∷ c ∷ []) ≡ counts found → Counted s n c
+    by : (found : Answer Mesh) → mesh_of s ≡ found → answered k ≡ counts_in found → Counted s k.nodes k.cells
     by (answered m) is e =
         let file = accepted_passed s m is in
         record { passed = file.0; nodes = ap (λ (m : Mesh). m.nodes) file.1 ∙ cc; cells = ap (λ (m : Mesh). m.cells) file.1 ∙ cc }
-    by (refused k) is e = let never : ◌≡◌ {A = ℕ} 0 1 = cc in absurd (omega arith)
+    by (refused n) is e = absurd (never n k (sym e))
 
-pub refusal : (found : Answer Mesh) (k : ℕ) → refused k ≡ counts found → found ≡ refused k
-refusal found k e = then_refused found (λ (m : Mesh). m.nodes ∷ m.cells ∷ []) k e
+pub refusal : (found : Answer Mesh) (n : ℕ) → refused n ≡ counts_in found → found ≡ refused n
+refusal found n e = then_refused found (λ (m : Mesh). both m.nodes m.cells) n e
 
 -- what is left of the lent lists by a refusal, and by a success
-pub untouched : (found : Answer Mesh) (k : ℕ) (nodes cells : List ℕ) → found ≡ refused k → Reads found (Refused k) nodes nodes cells cells
-untouched found k nodes cells e = rw e (record { answer = refl; nodes_left = refl; cells_left = refl })
+pub untouched : (found : Answer Mesh) (r : Refusal) (nodes cells : List ℕ) → found ≡ refused (number r) → Reads found (Err r) nodes nodes cells cells
+untouched found r nodes cells e = rw e (record { answer = refl; nodes_left = refl; cells_left = refl })
 
 laid : (f : ℕ → ℕ) (n k : ℕ) (old : List ℕ) → k ≡ n → tabulate n f ++ drop n old ≡ tabulate k f ++ drop (length (tabulate k f)) old
 laid f n k old e = rw (length_tabulate k f, e)
@@ -136,15 +115,9 @@ module _ (coords corners : ℕ) (s : List ℕ) where
   into_refused k e = rw e
 
   module _ (n c : ℕ) (file : Counted s n c) where
-    by_room : mesh_into coords corners s ≡ cond (ltb coords (node_words * n) || ltb corners (cell_numbers * c)) (refused 8) (answered (mesh_at s))
+    pub by_room : mesh_into coords corners s ≡ cond (ltb coords (node_words * n) || ltb corners (cell_numbers * c)) (refused 8) (answered (mesh_at s))
     unfolding mesh_into mesh_at
     by_room = rw (passed_accepted s file.passed, file.nodes, file.cells)
-
-    pub into_short_nodes : coords < node_words * n → mesh_into coords corners s ≡ refused 8
-    into_short_nodes short = rw (by_room, lt-ltb coords (3 * n) short)
-
-    pub into_short_cells : node_words * n ≤ coords → corners < cell_numbers * c → mesh_into coords corners s ≡ refused 8
-    into_short_cells room short = rw (by_room, le-ltb coords (3 * n) room, lt-ltb corners (8 * c) short)
 
     into_answered : node_words * n ≤ coords → cell_numbers * c ≤ corners → mesh_into coords corners s ≡ answered (mesh_at s)
     into_answered room space = rw (by_room, le-ltb coords (3 * n) room, le-ltb corners (8 * c) space)
@@ -152,7 +125,7 @@ module _ (coords corners : ℕ) (s : List ℕ) where
     pub written : (nodes nodes' cells cells' : List ℕ) → node_words * n ≤ coords → cell_numbers * c ≤ corners
         → nodes' ≡ numbers_at s 8 13 (3 * n) ++ drop (3 * n) nodes
         → cells' ≡ numbers_at s 4 (13 + 24 * n) (8 * c) ++ drop (8 * c) cells
-        → Reads (mesh_into coords corners s) (Counts n c) nodes nodes' cells cells'
+        → Reads (mesh_into coords corners s) (Ok (both n c)) nodes nodes' cells cells'
     unfolding mesh_at
     written nodes nodes' cells cells' room space en ec =
         let word : ℕ → ℕ = λ i. number_at s 8 (13 + 8 * i) in
@@ -180,28 +153,37 @@ pub record Found (s : List ℕ) (n c : ℕ) (cells : List ℕ) : Type 0 where
   pub corners : take (8 * c) cells ≡ (mesh_at s).corners
   pub long : length (take (8 * c) cells) ≡ 8 * c
 
-pub read_found : (coords corners : ℕ) (s : List ℕ) (n c : ℕ) (nodes nodes' cells cells' : List ℕ) → most_words ≤ coords → most_numbers ≤ corners
-    → Reads (mesh_into coords corners s) (Counts n c) nodes nodes' cells cells' → Found s n c cells'
+pub read_found : (coords corners : ℕ) (s : List ℕ) (k : Counts) (nodes nodes' cells cells' : List ℕ) → most_words ≤ coords → most_numbers ≤ corners
+    → Reads (mesh_into coords corners s) (Ok k) nodes nodes' cells cells' → Found s k.nodes k.cells cells'
 unfolding mesh_at
-read_found coords corners s n c nodes nodes' cells cells' room space r =
+read_found coords corners s k nodes nodes' cells cells' room space r =
     let enough = enough_room coords corners s room space in
-    let file : Counted s n c = counted s n c (r.answer ∙ ap counts enough) in
+    let n = k.nodes in
+    let c = k.cells in
+    let file : Counted s n c = counted s k (r.answer ∙ ap counts_in enough) in
     let corner : ℕ → ℕ = λ i. number_at s 4 (cells_from s + 4 * i) in
-    let whole : length (mesh_at s).corners ≡ 8 * c = length_tabulate (8 * cell_count s) corner ∙ ap (λ (k : ℕ). 8 * k) file.cells in
+    let whole : length (mesh_at s).corners ≡ 8 * c = length_tabulate (8 * cell_count s) corner ∙ ap (λ (i : ℕ). 8 * i) file.cells in
     let found : mesh_into coords corners s ≡ answered (mesh_at s) = enough ∙ passed_accepted s file.passed in
     let head : take (8 * c) cells' ≡ (mesh_at s).corners = ap (take (8 * c)) (rw found at r.cells_left) ∙ take_at (mesh_at s).corners _ (8 * c) whole in
     record { file = file; corners = head; long = ap length head ∙ whole }
 
 -- and the words at the head of the list of nodes
-pub read_words : (coords corners : ℕ) (s : List ℕ) (n c : ℕ) (nodes nodes' cells cells' : List ℕ) → most_words ≤ coords → most_numbers ≤ corners
-    → Reads (mesh_into coords corners s) (Counts n c) nodes nodes' cells cells'
-    → (take (3 * n) nodes' ≡ (mesh_at s).coords) × (length (take (3 * n) nodes') ≡ 3 * n)
+pub read_words : (coords corners : ℕ) (s : List ℕ) (k : Counts) (nodes nodes' cells cells' : List ℕ) → most_words ≤ coords → most_numbers ≤ corners
+    → Reads (mesh_into coords corners s) (Ok k) nodes nodes' cells cells'
+    → (take (3 * k.nodes) nodes' ≡ (mesh_at s).coords) × (length (take (3 * k.nodes) nodes') ≡ 3 * k.nodes)
 unfolding mesh_at
-read_words coords corners s n c nodes nodes' cells cells' room space r =
+read_words coords corners s k nodes nodes' cells cells' room space r =
     let enough = enough_room coords corners s room space in
-    let file : Counted s n c = counted s n c (r.answer ∙ ap counts enough) in
+    let n = k.nodes in
+    let c = k.cells in
+    let file : Counted s n c = counted s k (r.answer ∙ ap counts_in enough) in
     let word : ℕ → ℕ = λ i. number_at s 8 (head_length + 8 * i) in
-    let whole : length (mesh_at s).coords ≡ 3 * n = length_tabulate (3 * node_count s) word ∙ ap (λ (k : ℕ). 3 * k) file.nodes in
+    let whole : length (mesh_at s).coords ≡ 3 * n = length_tabulate (3 * node_count s) word ∙ ap (λ (i : ℕ). 3 * i) file.nodes in
     let found : mesh_into coords corners s ≡ answered (mesh_at s) = enough ∙ passed_accepted s file.passed in
     let head : take (3 * n) nodes' ≡ (mesh_at s).coords = ap (take (3 * n)) (rw found at r.nodes_left) ∙ take_at (mesh_at s).coords _ (3 * n) whole in
     (head, ap length head ∙ whole)
+
+-- as C has them, in a list
+pub counts_listed : (found : Answer Mesh) → listed (counts_in found) ≡ counts found
+counts_listed (answered m) = refl
+counts_listed (refused n) = refl

@@ -10,19 +10,12 @@ use borrow.Author.Tests.{le-ltb, eq-eqb, ltb-false, eqb-true, not-false}
 use Rattle.numbers.specs.Little.{bytes}
 use Rattle.numbers.proofs.Little.{length_all_bytes}
 use Rattle.answer.specs.Answer.{Answer, answered, refused, left}
-use Rattle.answer.proofs.Answers.{unless, then_unless, then_refused, then_answered, answered_same}
+use Rattle.answer.proofs.Answers.{unless, then_unless, then_answered, answered_same}
 use Rattle.buffer.specs.Put.{Puts, Wrote}
 use Rattle.buffer.proofs.Writing.{wrote_then, wrote_is, puts_wrote}
 use Rattle.hxm.specs.Format.{most_words, most_numbers, node_words, cell_numbers, head_length, head_of, nodes_part, cells_part, file_of, fault_in}
 use Rattle.hxm.proofs.Format.{length_file}
-use Rattle.hxm_write.specs.Writes.{mesh_of_lists, is_whole, file_for, file_into, length_of, ToldLosesNothing}
-use Rattle.hxm_write.specs.declared.Writing.TheVariants.{Length, Refused}
-
-pub told_loses_nothing : ToldLosesNothing
-told_loses_nothing (Length m) (Length n) h = cc
-told_loses_nothing (Length m) (Refused k) h = cc
-told_loses_nothing (Refused k) (Length n) h = cc
-told_loses_nothing (Refused k) (Refused l) h = cc
+use Rattle.hxm_write.specs.Writes.{mesh_of_lists, is_whole, file_for, file_into, length_of}
 
 pub record Written (room : ℕ) (nodes cells s : List ℕ) : Type 0 where
   pub nodes_few : length nodes ≤ most_words
@@ -100,10 +93,6 @@ left_by {nodes} {cells} {out} w head words numbers =
     let more = puts_wrote (rw (length_all_bytes 4 cells) (omega (arith, head.ends, head.keeps, first.ends, first.keeps, size))) numbers in
     let start : 0 + length s ≡ length s = omega arith in
     rw (answers (length out) nodes cells s w) (rw start at (wrote_is (wrote_then head (wrote_then first more))))
-
--- and what a refusal leaves
-pub left_alone : (file : Answer (List ℕ)) (k : ℕ) (out : List ℕ) → refused k ≡ length_of file → out ≡ left file out
-left_alone file k out e = rw (then_refused file length k e)
 
 -- ---- the ladder over the length alone, from its last rungs up
 abbrev pub long : List ℕ → List ℕ → ℕ

@@ -1,9 +1,7 @@
 -- What writing a mesh file leaves: the answer, and the lent buffer. Document 02, 1/12. Definitions and claims only.
 use Rattle.std.specs.Prelude.{ℕ, ◌/◌, ◌%◌, Bool, not, cond, List, eqb, ltb, length}
-use Rattle.answer.specs.Answer.{Answer, answered, refused, and_then, LosesNothing}
+use Rattle.answer.specs.Answer.{Answer, answered, refused, and_then}
 use Rattle.hxm.specs.Format.{most_words, most_numbers, node_words, cell_numbers, Mesh, file_of, fault_in}
-use Rattle.hxm_write.specs.declared.Writing.{Writing}
-use Rattle.hxm_write.specs.declared.Writing.TheVariants.{Length, Refused}
 
 -- "from node and cell lists": the mesh of two flat lists. Nobody states a count: there are as many nodes and cells as the lists hold.
 abbrev pub mesh_of_lists : List ℕ → List ℕ → Mesh
@@ -31,12 +29,3 @@ file_into room nodes cells = and_then (file_for nodes cells) (λ (s : List ℕ).
 -- "It returns the length"
 abbrev pub length_of : Answer (List ℕ) → Answer ℕ
 length_of file = and_then file (λ (s : List ℕ). answered (length s))
-
--- the number and the value of each answer
-abbrev pub told : Writing → Answer ℕ
-told (Length n) = answered n
-told (Refused k) = refused k
-
--- So the contract leaves one possible answer.
-abbrev pub ToldLosesNothing : Type 0
-ToldLosesNothing = LosesNothing told

@@ -26,12 +26,6 @@ module _ (numbers : List ℤ) (cells : List ℕ) (c i : ℕ) where
       → back (get_or numbers (3 * get_or cells (8 * c + k) 0 + i) (pos 0)) ≡ corner_of numbers (cell_at cells c) i k
   corner_read small k h = within_back tt (small.at (3 * get_or cells (8 * c + k) 0 + i)) ∙ sym (corner_is k h)
 
-  pub corners_small : EachWithin 1024 numbers → EachWithin 1024 (tabulate 8 (corner_of numbers (cell_at cells c) i))
-  corners_small small =
-      record {
-        at = tabulate_holds (Within 1024) 8 (corner_of numbers (cell_at cells c) i) (pos 0) (λ k. small.at _) (record { within = lit≤ tt });
-      }
-
 -- ---- one cell
 pub cell_volume_is : (numbers : List ℤ) (cells : List ℕ) (c : ℕ) (x y z : List ℤ)
     → x ≡ tabulate 8 (corner_of numbers (cell_at cells c) 0)

@@ -4,8 +4,7 @@ use native.Mathlib.Omega.{arith}
 use mathlib.Core.Path.{◌≡◌, refl, sym, ◌∙◌, ap, ap₂, subst, subst⁻¹}
 use mathlib.Core.List.{List, ◌++◌}
 use lib.IntN.{ℤ, pos}
-use lib.ListN.{length, get_or, take, drop}
-use lib.Seq.{take_at}
+use lib.ListN.{length, get_or, drop}
 use lib.Signed.{le_z}
 use borrow.Author.Tests.{lt-ltb, le-ltb}
 use Rattle.numbers.proofs.Least.{least_least}
@@ -16,8 +15,9 @@ use Rattle.faults.proofs.Faults.{faultless_is_sound}
 use Rattle.hxm.specs.Format.{mesh_at, mesh_of, fault_of}
 use Rattle.hxm.proofs.Ladder.{Counted, passed_accepted}
 use Rattle.volume_report.specs.Report.{Report, grid_numbers, volumes_of, total, first_not_above, mesh_report, room_for, report_of, report_into, volumes_in}
-use Rattle.volume_report.specs.Told.{Summary, summary_of}
-use Rattle.volume_report.specs.Sized.{most_volume, OnGrid, Written}
+use Rattle.volume_report.specs.declared.Summary.{Summary}
+use Rattle.volume_report.specs.Told.{summary_of}
+use Rattle.volume_report.specs.Sized.{most_volume, OnGrid}
 use Rattle.volume_report.proofs.Cells.{volumes_long, volumes_small}
 use Rattle.volume_report.proofs.Words.{numbers_long, numbers_small}
 
@@ -34,32 +34,30 @@ module _ (numbers : List ℤ) (cells : List ℕ) (n : ℕ) (old : List ℤ) wher
   pub no_room : length old < n → Reports (room_for (length old) (mesh_report numbers cells n)) (refused 8) old old
   no_room short = refuses _ 8 old (rw (volumes_long numbers cells n, lt-ltb (length old) n short))
 
-module _ {numbers : List ℤ} {cells : List ℕ} {n : ℕ} {old new : List ℤ} (written : Written numbers cells n old new) where
-  head_is : take n new ≡ volumes_of numbers cells n
-  head_is = ap (take n) written.is ∙ take_at (volumes_of numbers cells n) (drop n old) n (volumes_long numbers cells n)
+-- the volumes of its n cells
+module _ (numbers : List ℤ) (cells : List ℕ) (n : ℕ) (volumes : List ℤ) (written : volumes ≡ volumes_of numbers cells n) where
+  long : length volumes ≡ n
+  long = ap length written ∙ volumes_long numbers cells n
 
-  pub head_long : length (take n new) ≡ n
-  head_long = ap length head_is ∙ volumes_long numbers cells n
+  pub small : EachWithin 1024 numbers → EachWithin most_volume volumes
+  small grid = subst⁻¹ (EachWithin most_volume) written (volumes_small numbers cells n grid)
 
-  pub head_small : EachWithin 1024 numbers → EachWithin most_volume (take n new)
-  head_small small = subst⁻¹ (EachWithin most_volume) head_is (volumes_small numbers cells n small)
+  pub first_within : (first : ℕ) → first ≡ first_not_above volumes → first ≤ n
+  first_within first e = omega (arith, e, long, (least_least (length volumes) (λ (k : ℕ). le_z (get_or volumes k (pos 0)) (pos 0))).within)
 
-  pub first_within : (first : ℕ) → first ≡ first_not_above (take n new) → first ≤ n
-  first_within first e = omega (arith, e, head_long, (least_least (length (take n new)) (λ (k : ℕ). le_z (get_or (take n new) k (pos 0)) (pos 0))).within)
-
-  pub mesh_reported : (sum : ℤ) (first : ℕ) → n ≤ length old → sum ≡ total (take n new) → first ≡ first_not_above (take n new)
-      → Reports (room_for (length old) (mesh_report numbers cells n)) (answered (record { total = sum; cells = n; first = first })) old new
-  mesh_reported sum first room s f =
-      let long = volumes_long numbers cells n in
-      let sum_is : sum ≡ total (volumes_of numbers cells n) = s ∙ ap total head_is in
-      let first_is : first ≡ first_not_above (volumes_of numbers cells n) = f ∙ ap first_not_above head_is in
+  pub mesh_reported : (old : List ℤ) (sum : ℤ) (first : ℕ) → n ≤ length old → sum ≡ total volumes → first ≡ first_not_above volumes
+      → Reports (room_for (length old) (mesh_report numbers cells n)) (answered (record { total = sum; cells = n; first = first })) old (volumes ++ drop n old)
+  mesh_reported old sum first room s f =
+      let count = volumes_long numbers cells n in
+      let sum_is : sum ≡ total (volumes_of numbers cells n) = s ∙ ap total written in
+      let first_is : first ≡ first_not_above (volumes_of numbers cells n) = f ∙ ap first_not_above written in
       let enough : room_for (length old) (mesh_report numbers cells n) ≡ answered (mesh_report numbers cells n) =
-      rw (long, le-ltb (length old) n room) refl
+      rw (count, le-ltb (length old) n room) refl
       in
-      subst⁻¹ (λ (a : Answer Report). Reports a (answered (record { total = sum; cells = n; first = first })) old new) enough
+      subst⁻¹ (λ (a : Answer Report). Reports a (answered (record { total = sum; cells = n; first = first })) old (volumes ++ drop n old)) enough
       (record {
-        told = λ i. answered (record { total = sum_is i; cells = sym long i; first = first_is i });
-        output = written.is ∙ ap (λ (k : ℕ). volumes_of numbers cells n ++ drop k old) (sym long);
+        told = λ i. answered (record { total = sum_is i; cells = sym count i; first = first_is i });
+        output = λ i. written i ++ drop (sym count i) old;
       })
 
 -- ---- a file
@@ -68,9 +66,9 @@ module _ (s : List ℕ) (n c : ℕ) (file : Counted s n c) (room : ℕ) where
   unfolding fault_of mesh_at
   no_fault cells k = ap₂ (λ (m : ℕ) (l : List ℕ). first_fault m 8 l) (sym file.nodes) k ∙ file.passed.faultless
 
-  pub off_grid : (words : List ℕ) → words ≡ (mesh_at s).coords → grid_numbers words ≡ refused 15 → report_into room s ≡ refused 15
+  pub off_grid : (words : List ℕ) (k : ℕ) → words ≡ (mesh_at s).coords → grid_numbers words ≡ refused k → report_into room s ≡ refused k
   unfolding report_into report_of
-  off_grid words w e = let none : grid_numbers (mesh_at s).coords ≡ refused 15 = ap grid_numbers (sym w) ∙ e in rw (passed_accepted s file.passed, none)
+  off_grid words k w e = let none : grid_numbers (mesh_at s).coords ≡ refused k = ap grid_numbers (sym w) ∙ e in rw (passed_accepted s file.passed, none)
 
   cells_is : (mesh_at s).cells ≡ c
   unfolding mesh_at

@@ -23,18 +23,8 @@ use Rattle.hxm.proofs.Ladder.{Passed, accepted_passed}
 use Rattle.volume_report.specs.Sized.{most_volume}
 use Rattle.volume_report.specs.Report.{Report, grid_numbers, cell_volume, cells_of, total, report_on, mesh_report, room_for, report_of, report_into}
 use Rattle.volume_report.specs.Report.{TotalIsTheSum, First, FirstIsTheFirst, TotalInAnyOrder, Fits, ReportFits}
-use Rattle.volume_report.specs.Told.{ToldLosesNothing}
-use Rattle.volume_report.specs.declared.Reported.TheVariants.{Volumes, Refused}
 use Rattle.volume_report.proofs.Cells.{volumes_long, volumes_small}
 use Rattle.volume_report.proofs.Words.{numbers_small}
-
-pub told_loses_nothing : ToldLosesNothing
-told_loses_nothing (Volumes t c f) (Volumes u d g) h =
-    let same = answered_same h in
-    λ i. Volumes (same i).total (same i).cells (same i).first
-told_loses_nothing (Volumes t c f) (Refused k) h = cc
-told_loses_nothing (Refused k) (Volumes u d g) h = cc
-told_loses_nothing (Refused k) (Refused l) h = cc
 
 pub report_is : (s : List ℕ) (m : Mesh) (numbers : List ℤ) (r : Report) → mesh_of s ≡ answered m → grid_numbers m.coords ≡ answered numbers
     → report_of s ≡ answered r → r ≡ mesh_report numbers m.corners m.cells

@@ -8,14 +8,16 @@ use lib.IntN.{ℤ, pos, ◌+ℤ◌, ◌*ℤ◌}
 use lib.ListN.{get_or}
 use Rattle.numbers.specs.Arithmetic.{Arithmetic}
 use Rattle.integers.specs.Integers.{integers}
-use Rattle.integers.specs.Sizes.{Within, EachWithin}
+use Rattle.integers.specs.Sizes.{Within}
 use Rattle.integers.proofs.Expression.{var, expressions}
 use Rattle.integers.proofs.Solve.{solve}
 use Rattle.integers.proofs.Sizes.{within_back, back}
 use Rattle.integers.proofs.Straight.{Code, arg, num, op, add, sub, mul, codes, got, easy, Exact, exact}
 use Rattle.mat3_col_major.specs.Mat3.{det_in}
 use Rattle.exact_volume.specs.Determinants.{along, part}
-use Rattle.volume_report.specs.Sized.{most_part, at, Row, Differences, Part}
+use Rattle.volume_report.specs.Sized.{most_part, at, Row, Part}
+use Rattle.volume_report.specs.declared.Axis.{Axis}
+use Rattle.volume_report.specs.declared.Corners.{Corners}
 
 -- ---- the differences of one axis
 abbrev pub less : ℕ → ℕ → Code
@@ -24,11 +26,15 @@ less a b = op sub (arg a) (arg b)
 abbrev pub twist : ℕ → ℕ → ℕ → ℕ → Code
 twist p q u v = op add (less p q) (less u v)
 
-module _ (x : List ℤ) (small : EachWithin 1024 x) where
-  pub on_grid : (e : Code) → T (easy (λ i. 1024) e) → Exact (λ i. 1024) (at x) e
-  on_grid e t = exact (λ i. 1024) (at x) (λ i. small.at i) e t
+pub record Differences (x : List ℤ) (p q u v : ℕ) (a b c : ℤ) : Type 0 where
+  pub are : a ∷ b ∷ c ∷ [] ≡ along integers pos (at x) p q u v
+  pub small : Row a b c
 
-  pub differences : (p q u v : ℕ) → Differences x p q u v (got (at x) (twist p q u v)) (got (at x) (less 6 p)) (got (at x) (less v 0))
+module _ (k : Corners) where
+  pub on_grid : (e : Code) → T (easy (λ i. 1024) e) → Exact (λ i. 1024) (at k.x) e
+  on_grid e t = exact (λ i. 1024) (at k.x) (λ i. k.on_grid.at i) e t
+
+  pub differences : (p q u v : ℕ) → Differences k.x p q u v (got (at k.x) (twist p q u v)) (got (at k.x) (less 6 p)) (got (at k.x) (less v 0))
   differences p q u v =
       let first = on_grid (twist p q u v) tt in
       let second = on_grid (less 6 p) tt in
@@ -85,44 +91,27 @@ bounded_row {a} {b} {c} {β} {ρ} row rest = record { at = by }
     by (suc (suc zero)) = row.near
     by (suc (suc (suc i))) = rest.at i
 
-module _ (a b c d e f g h k : ℤ) (x : Row a b c) (y : Row d e f) (z : Row g h k) where
+module _ (r s t : Axis) where
   abbrev entries : List ℤ
-  entries = a ∷ b ∷ c ∷ d ∷ e ∷ f ∷ g ∷ h ∷ k ∷ []
+  entries = r.twist ∷ r.far ∷ r.near ∷ s.twist ∷ s.far ∷ s.near ∷ t.twist ∷ t.far ∷ t.near ∷ []
 
   pub of_rows : (e : Code) → T (easy (λ i. get_or bounds i 0) e) → Exact (λ i. get_or bounds i 0) (at entries) e
-  of_rows e t = exact (λ i. get_or bounds i 0) (at entries) (bounded_row x (bounded_row y (bounded_row z bounded_none))).at e t
+  of_rows e ok = exact (λ i. get_or bounds i 0) (at entries) (bounded_row r.small (bounded_row s.small (bounded_row t.small bounded_none))).at e ok
 
   pub determined : Part (det_in integers entries) (got (at entries) minors)
   determined =
       let whole = of_rows minors tt in
-      record { is = whole.gives ∙ minors_determinant a b c d e f g h k; small = subst⁻¹ (Within most_part) whole.gives whole.sized }
+      record { is = whole.gives ∙ minors_determinant r.twist r.far r.near s.twist s.far s.near t.twist t.far t.near; small = subst⁻¹ (Within most_part) whole.gives whole.sized }
 
--- ---- a part: the rows are read back as they were
-row_back : {a b c : ℤ} → Row a b c → (back a ≡ a) × (back b ≡ b) × (back c ≡ c)
-row_back row = (within_back tt row.twist, within_back tt row.far, within_back tt row.near)
-
-pub row_of_back : {a b c : ℤ} → Row a b c → Row (back a) (back b) (back c)
-row_of_back row =
-    let same = row_back row in
-    record {
-      twist = subst⁻¹ (Within 4096) same.0 row.twist;
-      far = subst⁻¹ (Within 2048) same.1 row.far;
-      near = subst⁻¹ (Within 2048) same.2 row.near;
-    }
-
-axis_back : {x : List ℤ} {p q u v : ℕ} {a b c : ℤ} → Differences x p q u v a b c → back a ∷ back b ∷ back c ∷ [] ≡ along integers pos (at x) p q u v
-axis_back d = let same = row_back d.small in (λ i. same.0 i ∷ same.1 i ∷ same.2 i ∷ []) ∙ d.are
-
-pub parted : {x y z : List ℤ} {p q u v : ℕ} {a b c d e f g h k r : ℤ}
-    → Differences x p q u v a b c → Differences y p q u v d e f → Differences z p q u v g h k
-    → Part (det_in integers (back a ∷ back b ∷ back c ∷ back d ∷ back e ∷ back f ∷ back g ∷ back h ∷ back k ∷ [])) r
-    → Part (part integers pos (at x) (at y) (at z) p q u v) (back r)
-parted i j l whole =
+-- ---- a part: the determinant is read back as it was
+pub parted : (x y z : List ℤ) (p q u v : ℕ) (a b c : Axis) (r : ℤ)
+    → a.twist ∷ a.far ∷ a.near ∷ [] ≡ along integers pos (at x) p q u v
+    → b.twist ∷ b.far ∷ b.near ∷ [] ≡ along integers pos (at y) p q u v
+    → c.twist ∷ c.far ∷ c.near ∷ [] ≡ along integers pos (at z) p q u v
+    → Part (det_in integers (entries a b c)) r → Part (part integers pos (at x) (at y) (at z) p q u v) (back r)
+parted x y z p q u v a b c r i j k whole =
     let same = within_back tt whole.small in
-    record {
-      is = same ∙ whole.is ∙ (λ t. det_in integers (axis_back i t ++ (axis_back j t ++ axis_back l t)));
-      small = subst⁻¹ (Within most_part) same whole.small;
-    }
+    record { is = same ∙ whole.is ∙ (λ t. det_in integers (i t ++ (j t ++ k t))); small = subst⁻¹ (Within most_part) same whole.small }
 
 -- ---- 18 times the sum of three parts
 abbrev pub sum : Code

@@ -28,10 +28,10 @@ module _ (words : List ℕ) (out : List ℤ) (i : ℕ) (below : i < length words
       ∙ each_more word_number (take i words) (get_or words i 0) (take i out) z so_far e
       ∙ ap answered (sym (ap (λ (k : ℕ). take k (set out i z)) (add-one i) ∙ take-suc-set out i z room))
 
-  pub numbers_stop : grid_number (of_bits binary64 (get_or words i 0)) ≡ refused 15 → grid_numbers words ≡ refused 15
+  pub numbers_stop : (k : ℕ) → grid_number (of_bits binary64 (get_or words i 0)) ≡ refused k → grid_numbers words ≡ refused k
   unfolding grid_numbers
-  numbers_stop e =
-      ap grid_numbers (split_at words i 0 below) ∙ each_stops word_number (take i words) (drop (suc i) words) (get_or words i 0) (take i out) 15 so_far e
+  numbers_stop k e =
+      ap grid_numbers (split_at words i 0 below) ∙ each_stops word_number (take i words) (drop (suc i) words) (get_or words i 0) (take i out) k so_far e
 
 pub numbers_long : (words : List ℕ) (numbers : List ℤ) → grid_numbers words ≡ answered numbers → length numbers ≡ length words
 unfolding grid_numbers

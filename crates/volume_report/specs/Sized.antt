@@ -1,9 +1,6 @@
 -- What the report's private functions give: the steps of a cell's volume and how large each is, so that none leaves 64 bits. Definitions only.
-use Rattle.std.specs.Prelude.{ℕ, ◌+◌, ◌*◌, ◌≤◌, ◌<◌, ◌≡◌, List, [], ◌∷◌, ◌++◌, ℤ, pos, length, get_or, drop}
-use Rattle.integers.specs.Integers.{integers}
+use Rattle.std.specs.Prelude.{ℕ, ◌+◌, ◌*◌, ◌≤◌, ◌<◌, ◌≡◌, List, ℤ, pos, length, get_or}
 use Rattle.integers.specs.Sizes.{Within, EachWithin}
-use Rattle.exact_volume.specs.Determinants.{along}
-use Rattle.volume_report.specs.Report.{volumes_of}
 
 -- number k of a list, as a coordinate of corner k
 abbrev pub at : List ℤ → ℕ → ℤ
@@ -14,11 +11,6 @@ pub record Row (a b c : ℤ) : Type 0 where
   pub twist : Within 4096 a
   pub far : Within 2048 b
   pub near : Within 2048 c
-
--- the differences that `along` gives
-pub record Differences (x : List ℤ) (p q u v : ℕ) (a b c : ℤ) : Type 0 where
-  pub are : a ∷ b ∷ c ∷ [] ≡ along integers pos (at x) p q u v
-  pub small : Row a b c
 
 -- a determinant of three such rows has six products of 4,096, 2,048 and 2,048, and a cell's volume is 18 times three of them
 abbrev pub most_part : ℕ
@@ -35,7 +27,3 @@ pub record Part (z r : ℤ) : Type 0 where
 pub record OnGrid (numbers : List ℤ) (cells : List ℕ) : Type 0 where
   pub small : EachWithin 1024 numbers
   pub named : (j : ℕ) → j < length cells → 3 * get_or cells j 0 + 3 ≤ length numbers
-
--- a list before and after, where the volumes of n cells were written
-pub record Written (numbers : List ℤ) (cells : List ℕ) (n : ℕ) (old new : List ℤ) : Type 0 where
-  pub is : new ≡ volumes_of numbers cells n ++ drop n old

@@ -1,29 +1,14 @@
 -- What a report is told as beside its list. Definitions and claims only.
 use Rattle.std.specs.Prelude.{ℕ, List, [], ◌∷◌, ℤ, length}
-use Rattle.answer.specs.Answer.{Answer, answered, refused, and_then, LosesNothing}
+use Rattle.answer.specs.Answer.{Answer, answered, and_then}
 use Rattle.volume_report.specs.Report.{Report}
-use Rattle.volume_report.specs.declared.Reported.{Reported}
-use Rattle.volume_report.specs.declared.Reported.TheVariants.{Volumes, Refused}
-
-pub record Summary : Type 0 where
-  pub total : ℤ
-  pub cells : ℕ
-  pub first : ℕ
+use Rattle.volume_report.specs.declared.Summary.{Summary}
 
 abbrev pub summary : Report → Summary
 summary r = record { total = r.total; cells = length r.volumes; first = r.first }
 
 abbrev pub summary_of : Answer Report → Answer Summary
 summary_of found = and_then found (λ (r : Report). answered (summary r))
-
--- the number and the values of each answer
-abbrev pub told : Reported → Answer Summary
-told (Volumes t c f) = answered (record { total = t; cells = c; first = f })
-told (Refused k) = refused k
-
--- So the contract leaves one possible answer.
-abbrev pub ToldLosesNothing : Type 0
-ToldLosesNothing = LosesNothing told
 
 -- as C has it: the total, and the two counts
 abbrev pub total_told : Answer Summary → Answer ℤ

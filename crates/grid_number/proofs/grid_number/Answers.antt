@@ -39,6 +39,10 @@ module _ (word : ℕ) (few : word % 2 ^ 63 ≤ limit) where
   broken : eq (rounded float) float ≡ false → refused 15 ≡ grid_number float
   broken e = sym (unequal float held (small word few).few e)
 
+pub returns-then-rounded-x : goal.returns-then-rounded-x
+unfolding of_bits
+returns-then-rounded-x c = whole c.args.word c.if-word-gt-LIMIT.false c.if-rounded-x.true
+
 pub returns-then-word-gt-LIMIT : goal.returns-then-word-gt-LIMIT
 returns-then-word-gt-LIMIT c = sym (of_more c.args.word (omega (arith, c.if-word-gt-LIMIT.true)))
 
@@ -48,10 +52,6 @@ float_from_bits-x c = no_nan c.args.word c.if-word-gt-LIMIT.false
 pub float_to_int-number : goal.float_to_int-number
 unfolding of_bits
 float_to_int-number c = castable c.args.word c.if-word-gt-LIMIT.false
-
-pub returns-then-rounded-x : goal.returns-then-rounded-x
-unfolding of_bits
-returns-then-rounded-x c = whole c.args.word c.if-word-gt-LIMIT.false c.if-rounded-x.true
 
 pub returns : goal.returns
 unfolding of_bits

@@ -8,7 +8,7 @@ pub returns : goal.returns
 unfolding bytes
 returns c =
     let w1 = puts_wrote (omega arith) c.put_bytes-mark.ensures in
-    let w2 = puts_wrote (omega (arith, w1.ends, w1.keeps)) c.put_u16-numbered.ensures in
-    let w3 = puts_wrote (omega (arith, w1.ends, w2.ends, w1.keeps, w2.keeps)) c.put_u32-counted.ensures in
-    let w4 = puts_wrote (omega (arith, w1.ends, w2.ends, w3.ends, w1.keeps, w2.keeps, w3.keeps)) c.put_u32.ensures in
+    let w2 = puts_wrote (omega (arith, w1.ends, w1.keeps)) c.put-numbered.ensures in
+    let w3 = puts_wrote (omega (arith, w1.ends, w2.ends, w1.keeps, w2.keeps)) c.put-counted.ensures in
+    let w4 = puts_wrote (omega (arith, w1.ends, w2.ends, w3.ends, w1.keeps, w2.keeps, w3.keeps)) c.put.ensures in
     wrote_then w1 (wrote_then w2 (wrote_then w3 w4))

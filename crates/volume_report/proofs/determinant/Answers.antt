@@ -22,38 +22,38 @@ second = op mul (arg 1) minor_b
 abbrev third : Code
 third = op mul (arg 2) minor_c
 
+pub returns : goal.returns
+returns c =
+    determined c.args.r c.args.s c.args.t
+
 pub overflow_sub-result : goal.overflow_sub-result
 overflow_sub-result c =
-    (of_rows c.args.a c.args.b c.args.c c.args.d c.args.e c.args.f c.args.g c.args.h c.args.k c.requires.0 c.requires.1 c.requires.2 minor_a tt).fits
+    (of_rows c.args.r c.args.s c.args.t minor_a tt).fits
 
 pub overflow_mul-result-3 : goal.overflow_mul-result-3
 overflow_mul-result-3 c =
-    (of_rows c.args.a c.args.b c.args.c c.args.d c.args.e c.args.f c.args.g c.args.h c.args.k c.requires.0 c.requires.1 c.requires.2 first tt).fits
+    (of_rows c.args.r c.args.s c.args.t first tt).fits
 
 pub overflow_sub-result-2 : goal.overflow_sub-result-2
 overflow_sub-result-2 c =
-    (of_rows c.args.a c.args.b c.args.c c.args.d c.args.e c.args.f c.args.g c.args.h c.args.k c.requires.0 c.requires.1 c.requires.2 minor_b tt).fits
+    (of_rows c.args.r c.args.s c.args.t minor_b tt).fits
 
 pub overflow_mul-result-6 : goal.overflow_mul-result-6
 overflow_mul-result-6 c =
-    (of_rows c.args.a c.args.b c.args.c c.args.d c.args.e c.args.f c.args.g c.args.h c.args.k c.requires.0 c.requires.1 c.requires.2 second tt).fits
+    (of_rows c.args.r c.args.s c.args.t second tt).fits
 
 pub overflow_add-result : goal.overflow_add-result
 overflow_add-result c =
-    (of_rows c.args.a c.args.b c.args.c c.args.d c.args.e c.args.f c.args.g c.args.h c.args.k c.requires.0 c.requires.1 c.requires.2 (op add first second) tt).fits
+    (of_rows c.args.r c.args.s c.args.t (op add first second) tt).fits
 
 pub overflow_sub-result-3 : goal.overflow_sub-result-3
 overflow_sub-result-3 c =
-    (of_rows c.args.a c.args.b c.args.c c.args.d c.args.e c.args.f c.args.g c.args.h c.args.k c.requires.0 c.requires.1 c.requires.2 minor_c tt).fits
+    (of_rows c.args.r c.args.s c.args.t minor_c tt).fits
 
 pub overflow_mul-result-9 : goal.overflow_mul-result-9
 overflow_mul-result-9 c =
-    (of_rows c.args.a c.args.b c.args.c c.args.d c.args.e c.args.f c.args.g c.args.h c.args.k c.requires.0 c.requires.1 c.requires.2 third tt).fits
+    (of_rows c.args.r c.args.s c.args.t third tt).fits
 
 pub overflow_add-result-2 : goal.overflow_add-result-2
 overflow_add-result-2 c =
-    (of_rows c.args.a c.args.b c.args.c c.args.d c.args.e c.args.f c.args.g c.args.h c.args.k c.requires.0 c.requires.1 c.requires.2 minors tt).fits
-
-pub returns : goal.returns
-returns c =
-    determined c.args.a c.args.b c.args.c c.args.d c.args.e c.args.f c.args.g c.args.h c.args.k c.requires.0 c.requires.1 c.requires.2
+    (of_rows c.args.r c.args.s c.args.t minors tt).fits

@@ -2,117 +2,105 @@
 use Prim.Native.Nat.{ℕ, ◌*◌, ◌/◌, ◌≤◌}
 use native.Mathlib.Omega.{arith}
 use mathlib.Core.Path.{◌≡◌, sym, ◌∙◌, ap}
-use mathlib.Core.Bool.{Bool, true, false, cond}
 use mathlib.Core.List.{List}
 use lib.Dec.{lit≤}
 use lib.IntN.{ℤ}
 use lib.ListN.{length, take}
+use lib.Seq.{length-take-le}
+use Rattle.std.specs.Prelude.{Ok, Err}
+use Rattle.std.proofs.lemmas.Result.{err_from_is_err_and}
 use Rattle.answer.specs.Answer.{Answer, answered, refused, left}
+use Rattle.answer.specs.Told.{number}
+use Rattle.answer.specs.declared.Refusal.{Refusal}
 use Rattle.hxm.specs.Format.{most_words, most_numbers, mesh_at}
-use Rattle.hxm.specs.Reads.{told, counts, mesh_into, Reads}
-use Rattle.hxm.specs.declared.Reading.{Reading}
-use Rattle.hxm.specs.declared.Reading.TheVariants.{Mesh, Refused}
+use Rattle.hxm.specs.Reads.{counts_in, mesh_into, Reads}
+use Rattle.hxm.specs.declared.Counts.{Counts}
 use Rattle.hxm.proofs.Ladder.{Found, read_found, read_words, refusal, enough_room}
 use Rattle.volume_report.specs.Report.{Report, grid_numbers, mesh_report, room_for, report_into, volumes_in}
 use Rattle.volume_report.specs.Told.{summary_of}
 use Rattle.volume_report.specs.Sized.{OnGrid}
-use Rattle.volume_report.proofs.Words.{numbers_long}
 use Rattle.volume_report.proofs.Meshes.{Reports, refuses, off_grid, on_file, nodes_named, refused_file}
 use Rattle.volume_report.proofs.report.Goals as goal
 
 -- what `read` says of a file that it accepts, and leaves in its lists
-record Known (s : List ℕ) (n c : ℕ) (words corners : List ℕ) : Type 0 where
-  pub found : Found s n c corners
-  pub coords : take (3 * n) words ≡ (mesh_at s).coords
-  pub long : length (take (3 * n) words) ≡ 3 * n
+record Known (s : List ℕ) (k : Counts) (words corners : List ℕ) : Type 0 where
+  pub found : Found s k.nodes k.cells corners
+  pub coords : take (3 * k.nodes) words ≡ (mesh_at s).coords
+  pub long : length (take (3 * k.nodes) words) ≡ 3 * k.nodes
 
-known : (words_room numbers_room : ℕ) (s : List ℕ) (r : Reading) (n c : ℕ) (nodes nodes' cells cells' : List ℕ)
-    → most_words ≤ words_room → most_numbers ≤ numbers_room → r ≡ Mesh n c → Reads (mesh_into words_room numbers_room s) r nodes nodes' cells cells'
-    → Known s n c nodes' cells'
-known words_room numbers_room s r n c nodes nodes' cells cells' room space is reads =
-    let words = read_words words_room numbers_room s n c nodes nodes' cells cells' room space (rw is at reads) in
-    record { found = read_found words_room numbers_room s n c nodes nodes' cells cells' room space (rw is at reads); coords = words.0; long = words.1 }
+known : {s : List ℕ} {k : Counts} {nodes nodes' cells cells' : List ℕ} → Reads (mesh_into most_words most_numbers s) (Ok k) nodes nodes' cells cells'
+    → Known s k nodes' cells'
+known reads =
+    let words = read_words _ _ _ _ _ _ _ _ (lit≤ tt) (lit≤ tt) reads in
+    record { found = read_found _ _ _ _ _ _ _ _ (lit≤ tt) (lit≤ tt) reads; coords = words.0; long = words.1 }
 
-refused_by : (words_room numbers_room room : ℕ) (s : List ℕ) (r : Reading) (k : ℕ) (nodes nodes' cells cells' : List ℕ) (volumes : List ℤ)
-    → most_words ≤ words_room → most_numbers ≤ numbers_room → r ≡ Refused k → Reads (mesh_into words_room numbers_room s) r nodes nodes' cells cells'
-    → Reports (report_into room s) (refused k) volumes volumes
-refused_by words_room numbers_room room s r k nodes nodes' cells cells' volumes few numbers is reads =
-    let answer = ap told (sym is) ∙ reads.answer ∙ ap counts (enough_room words_room numbers_room s few numbers) in
-    refuses _ _ _ (refused_file s room k (refusal _ _ answer))
+refused_by : (s : List ℕ) {r : Refusal} {nodes nodes' cells cells' : List ℕ} (room : ℕ) (volumes : List ℤ)
+    → Reads (mesh_into most_words most_numbers s) (Err r) nodes nodes' cells cells' → Reports (report_into room s) (refused (number r)) volumes volumes
+refused_by s {r} room volumes reads =
+    let answer = reads.answer ∙ ap counts_in (enough_room most_words most_numbers s (lit≤ tt) (lit≤ tt)) in
+    refuses _ _ _ (refused_file s room (number r) (refusal _ _ answer))
 
 -- what `put_numbers` says of its words
-module _ (s : List ℕ) (n c : ℕ) (words corners : List ℕ) (k : Known s n c words corners) (out : List ℤ) (on : Bool)
-    (e : grid_numbers (take (3 * n) words) ≡ cond on (answered (take (length (take (3 * n) words)) out)) (refused 15)) where
-  refused_by_grid : (room : ℕ) (volumes : List ℤ) → on ≡ false → Reports (report_into room s) (refused 15) volumes volumes
-  refused_by_grid room volumes fails = refuses _ _ _ (off_grid s n c k.found.file room _ k.coords (rw fails at e))
+module _ {s : List ℕ} {k : Counts} {words corners : List ℕ} (file : Known s k words corners) where
+  few : 3 * k.nodes ≤ 3072
+  few = omega (arith, file.found.file.passed.nodes_few, file.found.file.nodes)
 
-  numbers : on ≡ true → grid_numbers (take (3 * n) words) ≡ answered (take (3 * n) out)
-  numbers holds = rw holds at e ∙ ap (λ (m : ℕ). answered (take m out)) k.long
+  refused_by_grid : (room : ℕ) (volumes : List ℤ) (r : ℕ) → grid_numbers (take (3 * k.nodes) words) ≡ refused r
+      → Reports (report_into room s) (refused r) volumes volumes
+  refused_by_grid room volumes r e = refuses _ _ _ (off_grid s k.nodes k.cells file.found.file room _ r file.coords e)
 
-  grid_long : on ≡ true → length (take (3 * n) out) ≡ 3 * n
-  grid_long holds = numbers_long _ _ (numbers holds) ∙ k.long
+  module _ (numbers : List ℤ) (e : grid_numbers (take (3 * k.nodes) words) ≡ answered numbers) where
+    on_grid : OnGrid numbers (take (8 * k.cells) corners)
+    on_grid = nodes_named s k.nodes k.cells file.found.file 0 _ _ _ file.coords file.found.corners file.long file.found.long e
 
-  on_grid : on ≡ true → OnGrid (take (3 * n) out) (take (8 * c) corners)
-  on_grid holds = nodes_named s n c k.found.file 0 _ _ _ k.coords k.found.corners k.long k.found.long (numbers holds)
+    reported : (room : ℕ) → room_for room (mesh_report numbers (take (8 * k.cells) corners) (length (take (8 * k.cells) corners) / 8)) ≡ report_into room s
+    reported room =
+        let count : length (take (8 * k.cells) corners) / 8 ≡ k.cells = omega (arith, file.found.long) in
+        ap (λ (m : ℕ). room_for room (mesh_report numbers (take (8 * k.cells) corners) m)) count
+        ∙ sym (on_file s k.nodes k.cells file.found.file room _ _ _ file.coords file.found.corners e)
 
-  reported : (room : ℕ) → on ≡ true
-      → room_for room (mesh_report (take (3 * n) out) (take (8 * c) corners) (length (take (8 * c) corners) / 8)) ≡ report_into room s
-  reported room holds =
-      let count : length (take (8 * c) corners) / 8 ≡ c = omega (arith, k.found.long) in
-      ap (λ (m : ℕ). room_for room (mesh_report (take (3 * n) out) (take (8 * c) corners) m)) count
-      ∙ sym (on_file s n c k.found.file room _ _ _ k.coords k.found.corners (numbers holds))
-
-pub slice_bounds-words-end : goal.slice_bounds-words-end
-slice_bounds-words-end c =
-    let k = known _ _ c.args.bytes.now _ _ _ _ _ _ _ (lit≤ tt) (lit≤ tt) c.in-Mesh.is c.read.ensures in
-    omega (arith, k.found.file.passed.nodes_few, k.found.file.nodes, c.read.auto.nodes)
-
-pub slice_bounds-put_numbers-end : goal.slice_bounds-put_numbers-end
-slice_bounds-put_numbers-end c =
-    let k = known _ _ c.args.bytes.now _ _ _ _ _ _ _ (lit≤ tt) (lit≤ tt) c.in-Mesh.is c.read.ensures in
-    sym k.long
-
-pub returns-then-not-put_numbers : goal.returns-then-not-put_numbers
-returns-then-not-put_numbers c =
-    let k = known _ _ c.args.bytes.now _ _ _ _ _ _ _ (lit≤ tt) (lit≤ tt) c.in-Mesh.is c.read.ensures in
-    let said = refused_by_grid _ _ _ _ _ k _ _ c.put_numbers.ensures (length c.args.volumes.now) c.args.volumes.now c.if-not-put_numbers.true in
-    record { answer = said.told; output = said.output }
+pub returns-in_err-counts : goal.returns-in_err-counts
+returns-in_err-counts c =
+    let p = err_from_is_err_and c.from_residual.result c.from_residual.ensures.1 in
+    let said = refused_by c.args.bytes.now (length c.args.volumes.now) c.args.volumes.now c.in_err-counts.ensures in
+    rw (p.1, p.2) (record { answer = said.told; output = said.output })
 
 pub slice_bounds-numbers-end : goal.slice_bounds-numbers-end
-slice_bounds-numbers-end c =
-    let k = known _ _ c.args.bytes.now _ _ _ _ _ _ _ (lit≤ tt) (lit≤ tt) c.in-Mesh.is c.read.ensures in
-    omega (arith, k.found.file.passed.nodes_few, k.found.file.nodes, c.put_numbers.auto.out)
+slice_bounds-numbers-end c = few (known c.in_ok-counts.ensures)
 
-pub slice_bounds-report_mesh-end : goal.slice_bounds-report_mesh-end
-slice_bounds-report_mesh-end c =
-    let k = known _ _ c.args.bytes.now _ _ _ _ _ _ _ (lit≤ tt) (lit≤ tt) c.in-Mesh.is c.read.ensures in
-    sym (grid_long _ _ _ _ _ k _ _ c.put_numbers.ensures c.if-not-put_numbers.false)
+pub slice_bounds-numbers-end-2 : goal.slice_bounds-numbers-end-2
+slice_bounds-numbers-end-2 c = sym (length-take-le _ _ (few (known c.in_ok-counts.ensures)))
+
+pub slice_bounds-words-end : goal.slice_bounds-words-end
+slice_bounds-words-end c = let h = few (known c.in_ok-counts.ensures) in omega (arith, c.read.auto.nodes)
+
+pub slice_bounds-put_numbers-end : goal.slice_bounds-put_numbers-end
+slice_bounds-put_numbers-end c = sym (known c.in_ok-counts.ensures).long
+
+pub returns-in_err-put_numbers : goal.returns-in_err-put_numbers
+returns-in_err-put_numbers c =
+    let k = known c.in_ok-counts.ensures in
+    let p = err_from_is_err_and c.from_residual-in_err-put_numbers.result c.from_residual-in_err-put_numbers.ensures.1 in
+    let said = refused_by_grid k (length c.args.volumes.now) c.args.volumes.now _ c.in_err-put_numbers.ensures in
+    rw (p.1, p.2) (record { answer = said.told; output = said.output })
 
 pub slice_bounds-cells-end : goal.slice_bounds-cells-end
 slice_bounds-cells-end c =
-    let k = known _ _ c.args.bytes.now _ _ _ _ _ _ _ (lit≤ tt) (lit≤ tt) c.in-Mesh.is c.read.ensures in
+    let k = known c.in_ok-counts.ensures in
     omega (arith, k.found.file.passed.cells_few, k.found.file.cells, c.read.auto.cells)
 
-pub slice_bounds-report_mesh-end-in-Mesh : goal.slice_bounds-report_mesh-end-in-Mesh
-slice_bounds-report_mesh-end-in-Mesh c =
-    let k = known _ _ c.args.bytes.now _ _ _ _ _ _ _ (lit≤ tt) (lit≤ tt) c.in-Mesh.is c.read.ensures in
-    sym k.found.long
+pub slice_bounds-mesh-end : goal.slice_bounds-mesh-end
+slice_bounds-mesh-end c = sym (known c.in_ok-counts.ensures).found.long
 
-pub report_mesh-requires : goal.report_mesh-requires
-report_mesh-requires c =
-    let k = known _ _ c.args.bytes.now _ _ _ _ _ _ _ (lit≤ tt) (lit≤ tt) c.in-Mesh.is c.read.ensures in
-    (on_grid _ _ _ _ _ k _ _ c.put_numbers.ensures c.if-not-put_numbers.false, omega (arith, k.found.long, k.found.file.passed.cells_few, k.found.file.cells))
+pub invariant_of-mesh : goal.invariant_of-mesh
+invariant_of-mesh c = let k = known c.in_ok-counts.ensures in
+    record { on_grid = on_grid k _ c.in_ok-put_numbers.ensures; few = omega (arith, k.found.long, k.found.file.passed.cells_few, k.found.file.cells) }
 
-pub returns-else-not-put_numbers : goal.returns-else-not-put_numbers
-returns-else-not-put_numbers c =
-    let k = known _ _ c.args.bytes.now _ _ _ _ _ _ _ (lit≤ tt) (lit≤ tt) c.in-Mesh.is c.read.ensures in
-    let same = reported _ _ _ _ _ k _ _ c.put_numbers.ensures (length c.args.volumes.now) c.if-not-put_numbers.false in
+pub returns : goal.returns
+returns c =
+    let k = known c.in_ok-counts.ensures in
+    let same = reported k _ c.in_ok-put_numbers.ensures (length c.args.volumes.now) in
     record {
-      answer = c.report_mesh.ensures.answer ∙ ap summary_of same;
-      output = c.report_mesh.ensures.output ∙ ap (λ (r : Answer Report). left (volumes_in r) c.args.volumes.now) same;
+      answer = c.report.ensures.answer ∙ ap summary_of same;
+      output = c.report.ensures.output ∙ ap (λ (r : Answer Report). left (volumes_in r) c.args.volumes.now) same;
     }
-
-pub returns-in-Refused : goal.returns-in-Refused
-returns-in-Refused c =
-    let said = refused_by _ _ (length c.args.volumes.now) c.args.bytes.now _ _ _ _ _ _ c.args.volumes.now (lit≤ tt) (lit≤ tt) c.in-Refused.is c.read.ensures in
-    record { answer = said.told; output = said.output }
