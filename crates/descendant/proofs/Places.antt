@@ -5,24 +5,20 @@ use native.Mathlib.Omega.{arith}
 use mathlib.Core.Path.{◌≡◌, refl, ◌∙◌, ap, ap₂}
 use mathlib.Core.Bool.{Bool, true, false, cond}
 use mathlib.Core.List.{List, [], ◌∷◌, ◌++◌}
+use lib.Dec.{ltb}
 use lib.IntN.{ℤ, pos, negsuc, nat_abs, ◌+ℤ◌, ◌*ℤ◌, +ℤ_assoc, +ℤ_comm, +ℤ_idl, neg_ℤ-+ℤ}
 use lib.ListN.{length, get_or, take, drop, length-append, length-drop}
 use lib.Seq.{take_all}
 use lib.Pow.{pow_mono}
 use lib.Signed.{mag}
+use borrow.Author.Tests.{ltb-true}
 use mir.Syntax.{w32}
 use mir.Val.{SFits, to_z, of_z}
 use mir.Facts.{to_z_pos, to_z-of_z}
 use Rattle.integers.proofs.Sizes.{size_neg, size_add, size_mag}
+use Rattle.numbers.proofs.All.{all_each, all_where}
 use Rattle.hexahedron.specs.Cube.{upper}
-use Rattle.descendant.specs.Place.{sign, octant, sum, place, ToldLosesNothing, PlacesFollow}
-use Rattle.descendant.specs.declared.Descended.TheVariants.{At, Refused}
-
-pub told_loses_nothing : ToldLosesNothing
-told_loses_nothing (At a b c) (At d e f) h = cc
-told_loses_nothing (At a b c) (Refused n) h = cc
-told_loses_nothing (Refused m) (At d e f) h = cc
-told_loses_nothing (Refused m) (Refused n) h = cc
+use Rattle.descendant.specs.Place.{sign, octant, sum, place, octants, PlacesFollow}
 
 -- a sign times a number
 
@@ -136,3 +132,12 @@ place_parts (o ∷ rest) k i some = place_along i k o rest
 pub place_empty : (path : List ℕ) (k i : ℕ) → length path ≡ 0 → place path k i ≡ sign k i
 place_empty [] k i none = place_none i k
 place_empty (o ∷ rest) k i none = absurd (omega arith)
+
+-- the octants of a path that has no other numbers
+pub octant_at : (path : List ℕ) → octants path ≡ true → (j : ℕ) → j < length path → get_or path j 0 < 8
+octant_at path all j h = ltb-true (get_or path j 0) 8 (all_each (λ (i : ℕ). ltb (get_or path i 0) 8) (length path) all j h)
+
+pub octants_rest : (path : List ℕ) → octants path ≡ true → octants (drop 1 path) ≡ true
+octants_rest [] all = all
+octants_rest (o ∷ rest) all =
+    all_where (λ (i : ℕ). ltb (get_or rest i 0) 8) (length rest) (λ j h. all_each (λ (i : ℕ). ltb (get_or (o ∷ rest) i 0) 8) (suc (length rest)) all (suc j) (omega arith))

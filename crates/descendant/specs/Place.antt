@@ -1,10 +1,8 @@
 -- Where a corner of a descendant stands: document 01, "Descendant". Definitions and claims only.
 use Rattle.std.specs.Prelude.{ℕ, zero, suc, pred, ◌-◌, ◌^◌, ◌≡◌, Bool, ◌&&◌, cond, List, [], ◌∷◌, ◌++◌, ltb, ℤ, pos, negsuc, ◌+ℤ◌, ◌*ℤ◌, length, get_or}
 use Rattle.numbers.specs.Rule.{tabulate, all}
-use Rattle.answer.specs.Answer.{Answer, answered, refused, LosesNothing}
+use Rattle.answer.specs.Answer.{Answer, answered, refused}
 use Rattle.hexahedron.specs.Cube.{upper}
-use Rattle.descendant.specs.declared.Descended.{Descended}
-use Rattle.descendant.specs.declared.Descended.TheVariants.{At, Refused}
 
 -- the sign of corner or octant k on axis i, as `HEX_SIGN` has it
 unfoldable pub sign : ℕ → ℕ → ℤ
@@ -31,15 +29,6 @@ octants path = all (length path) (λ (j : ℕ). ltb (get_or path j 0) 8)
 unfoldable pub descended : List ℕ → ℕ → Answer (List ℤ)
 descended path k =
     cond (ltb 20 (length path)) (refused 7) (cond (octants path && ltb k 8) (answered (tabulate 3 (place path k))) (refused 9))
-
--- the number and the values of each answer
-abbrev pub told : Descended → Answer (List ℤ)
-told (At x y z) = answered (x ∷ y ∷ z ∷ [])
-told (Refused n) = refused n
-
--- So the contract leaves one possible answer.
-abbrev pub ToldLosesNothing : Type 0
-ToldLosesNothing = LosesNothing told
 
 -- "The place of a deeper child follows from its parent's by the same rule, one level less."
 pub record PlacesFollow : Type 0 where

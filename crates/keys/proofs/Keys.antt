@@ -5,18 +5,24 @@ use native.Mathlib.Nat.{pow-suc, mul-le-mul_right}
 use native.Mathlib.Omega.{arith}
 use mathlib.Core.Path.{◌≡◌, refl, sym, ap, ◌∙◌}
 use mathlib.Core.Bool.{Bool, true, false, ◌||◌, not, or-true}
-use mathlib.Core.List.{List, [], ◌∷◌}
+use mathlib.Core.List.{List, [], ◌∷◌, map}
 use borrow.Author.Tests.{eq-eqb, eqb-true, eqb-false, ltb-true, ltb-false}
 use lib.Dec.{T, eqb, ltb}
 use mathlib.Core.Logic.{inl, inr, ⊎_elim}
 use lib.ListN.{length, get_or}
+use Rattle.std.specs.Simd.{first_chunks}
+use Rattle.cell.specs.Edges.{end}
+use Rattle.faults.specs.Faults.{node, names}
+use Rattle.faults.proofs.Faults.{taken}
+use Rattle.hexahedron.specs.Cube.{edges, ring}
+use Rattle.numbering.specs.Refinement.{cell_count, edge_corners, face_corners, edge_nodes, face_nodes}
 use Rattle.numbers.proofs.Cases.{cases, never, is_false, fails}
 use Rattle.numbers.proofs.Every.{Every}
 use Rattle.numbers.proofs.Tabulate.{tabulate_back}
 use Rattle.numbers.proofs.Tests.{first, second}
 use Rattle.numbers.specs.FirstMet.{among, apart}
 use Rattle.keys.specs.Keys.{insert, rising, packed, key, opposite, Nodes, PairsInOrder, KeysTell, RingsTell}
-use Rattle.numbering.proofs.Cells.{Different}
+use Rattle.numbering.proofs.Cells.{Different, edge_corner, face_corner}
 use Rattle.numbering.proofs.Rings.{opposite_tells}
 use Rattle.numbering.proofs.Same.{among_at, members, by_members}
 
@@ -281,13 +287,35 @@ pair_key a b =
     (λ t. let less = ltb-true a b t in rw t (omega arith))
     (λ f. let most = ltb-false a b f in rw f (omega arith))
 
-pub four_key : (a b c d : ℕ) → packed (exchanged a b c d) ≡ key (a ∷ b ∷ c ∷ d ∷ [])
+four_key : (a b c d : ℕ) → packed (exchanged a b c d) ≡ key (a ∷ b ∷ c ∷ d ∷ [])
 unfolding key
 four_key a b c d = ap packed (sym (exchanged_rising a b c d))
 
 -- a list of four is its four numbers
-pub four_nodes : (ps : List ℕ) → length ps ≡ 4 → get_or ps 0 0 ∷ get_or ps 1 0 ∷ get_or ps 2 0 ∷ get_or ps 3 0 ∷ [] ≡ ps
+four_nodes : (ps : List ℕ) → length ps ≡ 4 → get_or ps 0 0 ∷ get_or ps 1 0 ∷ get_or ps 2 0 ∷ get_or ps 3 0 ∷ [] ≡ ps
 four_nodes ps long = tabulate_back ps 4 0 long
+
+pub ring_key : (ps : List ℕ) → length ps ≡ 4 → packed (exchanged (get_or ps 0 0) (get_or ps 1 0) (get_or ps 2 0) (get_or ps 3 0)) ≡ key ps
+ring_key ps long = four_key (get_or ps 0 0) (get_or ps 1 0) (get_or ps 2 0) (get_or ps 3 0) ∙ ap key (four_nodes ps long)
+
+-- the nodes of an edge and of a face of cell c, where the cells are taken eight numbers at a time
+module _ (cells : List ℕ) (whole : List (List ℕ)) (is : whole ≡ first_chunks 8 (cell_count cells) cells) (c : ℕ) (below : c < cell_count cells) where
+  corner : (j : ℕ) → j < 8 → names (get_or whole c []) j ≡ node 8 cells c j
+  corner j h = rw is (taken 8 (cell_count cells) cells c below j h)
+
+  pub edge_is : (e : ℕ) → e < 12 → map (names (get_or whole c [])) (edge_corners e) ≡ edge_nodes cells c e
+  edge_is e h =
+      let a = corner (end edges e 0) (edge_corner e 0 h (omega arith)) in
+      let b = corner (end edges e 1) (edge_corner e 1 h (omega arith)) in
+      cc
+
+  pub face_is : (f : ℕ) → f < 6 → map (names (get_or whole c [])) (face_corners f) ≡ face_nodes cells c f
+  face_is f h =
+      let p = corner (ring f 0) (face_corner (4 * f + 0) (omega arith)) in
+      let q = corner (ring f 1) (face_corner (4 * f + 1) (omega arith)) in
+      let r = corner (ring f 2) (face_corner (4 * f + 2) (omega arith)) in
+      let s = corner (ring f 3) (face_corner (4 * f + 3) (omega arith)) in
+      cc
 
 -- ---- rings
 -- where the smallest node of a ring stands, and that across from it

@@ -2,75 +2,55 @@
 // are told apart by the node opposite the smallest.
 #![tactic(auto)]
 
-ghost use Rattle.std.specs.Prelude.{◌≡◌, [], ◌∷◌, ◌+◌, ◌*◌, ◌<◌, ◌≤◌, min, max, length, get_or, replicate};
-ghost use Rattle.cell.specs.Edges.{end};
-ghost use Rattle.faults.specs.Faults.{node};
-ghost use Rattle.hexahedron.specs.Cube.{edges, idx2node};
-ghost use Rattle.numbering.specs.Refinement.{cell_count, edge_nodes, face_nodes};
+ghost use Rattle.std.specs.Prelude.{◌≡◌, [], ◌∷◌, ◌*◌, ◌<◌, min, map};
+ghost use Rattle.faults.specs.Faults.{names};
+ghost use Rattle.numbering.specs.Refinement.{cell_count, edge_corners, face_corners};
 ghost use Rattle.keys.specs.Keys.{packed, key, opposite, edge_key, face_key, face_ring, keys_in};
 
-// The faces of a mesh: the key of each, and the node opposite the smallest, which tells the rings of one key apart.
+// The most cells, and as many edges and faces as they have.
+pub const MOST_CELLS: usize = 128;
+
+pub const MOST_EDGES: usize = 1536;
+
+pub const MOST_FACES: usize = 768;
+
+// The faces of a mesh: the key of each, and the node opposite the smallest, which tells the rings of one key apart. The keys stand by themselves, so that
+// they are searched as those of the edges are, which have no rings.
 #[derive(Drop)]
 pub struct FaceKeys {
-    pub keys: [u64; 768],
-    pub rings: [u32; 768],
-}
-
-fn low(a: u32, b: u32) -> u32
-    ensures { result ≡ min a b }
-{
-    if a < b { a } else { b }
-}
-
-fn high(a: u32, b: u32) -> u32
-    ensures { result ≡ max a b }
-{
-    if a < b { b } else { a }
+    pub keys: [u64; MOST_FACES],
+    pub rings: [u32; MOST_FACES],
 }
 
 // Four numbers as the digits of one, base 1,024, the first digit highest.
 fn digits(a: u32, b: u32, c: u32, d: u32) -> u64
     ensures { result ≡ packed (a ∷ b ∷ c ∷ d ∷ []) }
 {
-    d as u64 + 1024 * (c as u64 + 1024 * (b as u64 + 1024 * (a as u64)))
+    u64::from(d) + 1024 * (u64::from(c) + 1024 * (u64::from(b) + 1024 * u64::from(a)))
 }
 
-// End s of edge e of cell c.
-fn edge_node(cells: &[u32], c: usize, e: usize, s: usize) -> u32
-    requires { (8 * c + 8 ≤ length cells.now) × (e < 12) × (s < 2) }
-    ensures { result ≡ node 8 cells.now c (end edges e s) }
+// The ends of edge e of a cell in rising order, as the digits of one number.
+#[tactic(auto, using(numbering::proofs::Cells::edge_corner, crate::proofs::Keys::pair_key))]
+fn edge_key(cell: &[u32; 8], e: usize) -> u64
+    requires { e < 12 }
+    ensures { result ≡ key (map (names cell.now) (edge_corners e)) }
 {
-    cells[8 * c + hexahedron::EDGE2NODE[e][s]]
+    let a = cell[hexahedron::EDGE2NODE[e][0]];
+    let b = cell[hexahedron::EDGE2NODE[e][1]];
+    u64::from(a.max(b)) + 1024 * u64::from(a.min(b))
 }
 
-// Node s of face f of cell c.
-fn face_node(cells: &[u32], c: usize, f: usize, s: usize) -> u32
-    requires { (8 * c + 8 ≤ length cells.now) × (f < 6) × (s < 4) }
-    ensures { result ≡ node 8 cells.now c (get_or idx2node (4 * f + s) 0) }
-{
-    cells[8 * c + hexahedron::IDX2NODE[4 * f + s]]
-}
-
-// The ends of an edge in rising order, as the digits of one number.
-fn edge_key(cells: &[u32], c: usize, e: usize) -> u64
-    requires { (8 * c + 8 ≤ length cells.now) × (e < 12) }
-    ensures { result ≡ key (edge_nodes cells.now c e) }
-{
-    let a = edge_node(cells, c, e, 0);
-    let b = edge_node(cells, c, e, 1);
-    high(a, b) as u64 + 1024 * (low(a, b) as u64)
-}
-
-// The ring of nodes of face f of cell c.
-fn face_nodes(cells: &[u32], c: usize, f: usize) -> [u32; 4]
-    requires { (8 * c + 8 ≤ length cells.now) × (f < 6) }
-    ensures { result ≡ face_nodes cells.now c f }
+// The ring of nodes of face f of a cell.
+#[tactic(auto, using(numbering::proofs::Cells::face_corner))]
+fn face_nodes(cell: &[u32; 8], f: usize) -> [u32; 4]
+    requires { f < 6 }
+    ensures { result ≡ map (names cell.now) (face_corners f) }
 {
     [
-        face_node(cells, c, f, 0),
-        face_node(cells, c, f, 1),
-        face_node(cells, c, f, 2),
-        face_node(cells, c, f, 3),
+        cell[hexahedron::IDX2NODE[4 * f]],
+        cell[hexahedron::IDX2NODE[4 * f + 1]],
+        cell[hexahedron::IDX2NODE[4 * f + 2]],
+        cell[hexahedron::IDX2NODE[4 * f + 3]],
     ]
 }
 
@@ -78,61 +58,49 @@ fn face_nodes(cells: &[u32], c: usize, f: usize) -> [u32; 4]
 fn face_key(ring: [u32; 4]) -> u64
     ensures { result ≡ key ring }
 {
-    let p = low(ring[0], ring[1]);
-    let q = high(ring[0], ring[1]);
-    let r = low(ring[2], ring[3]);
-    let s = high(ring[2], ring[3]);
-    let m = high(p, r);
-    let k = low(q, s);
-    digits(low(p, r), low(m, k), high(m, k), high(q, s))
+    let [a, b, c, d] = ring;
+    let p = a.min(b);
+    let q = a.max(b);
+    let r = c.min(d);
+    let s = c.max(d);
+    let m = p.max(r);
+    let k = q.min(s);
+    digits(p.min(r), m.min(k), m.max(k), q.max(s))
 }
 
 // The node opposite the smallest one, which is the other end of the diagonal that the smallest is on.
 fn opposite(ring: [u32; 4]) -> u32
     ensures { result ≡ opposite ring }
 {
-    if low(ring[0], ring[2]) < low(ring[1], ring[3]) {
-        high(ring[0], ring[2])
+    let [a, b, c, d] = ring;
+    if a.min(c) < b.min(d) {
+        a.max(c)
     } else {
-        high(ring[1], ring[3])
+        b.max(d)
     }
 }
 
-// How many cells a list has; of a longer list the first 128 count.
-fn counted(cells: &[u32]) -> usize
-    ensures { result ≡ min (cell_count cells.now) 128 }
+// Puts the keys of the edges, twelve a cell, into a lent list: one of this size that is returned is copied on its way. Of a longer list of cells the first
+// 128 count. By index: of a list that an iterator writes a proof knows the length alone.
+pub fn edge_keys(cells: &[u32], keys: &mut [u64; MOST_EDGES])
+    ensures { keys.new ≡ keys_in keys.old (12 * min (cell_count cells.now) 128) (edge_key cells.now) }
 {
-    let whole = cells.len() / 8;
-    if whole < 128 { whole } else { 128 }
+    let (whole, _) = cells.as_chunks::<8>();
+    for j in 0..12 * whole.len().min(MOST_CELLS) {
+        keys[j] = edge_key(&whole[j / 12], j % 12);
+    }
 }
 
-// The keys of the edges, twelve a cell.
-pub fn edge_keys(cells: &[u32]) -> [u64; 1536]
-    ensures { result ≡ keys_in (replicate 1536 0) (12 * min (cell_count cells.now) 128) (edge_key cells.now) }
+// Puts the keys of the faces, six a cell, and the nodes opposite the smallest ones, as `edge_keys` does: a face has a ring
+// beside its key, and an edge has none, so that each has a loop of its own.
+pub fn face_keys(cells: &[u32], faces: &mut FaceKeys)
+    ensures keys { faces.new.keys ≡ keys_in faces.old.keys (6 * min (cell_count cells.now) 128) (face_key cells.now) }
+    ensures rings { faces.new.rings ≡ keys_in faces.old.rings (6 * min (cell_count cells.now) 128) (face_ring cells.now) }
 {
-    let mut keys = [0u64; 1536];
-    let count = 12 * counted(cells);
-    for j in 0..count {
-        keys[j] = edge_key(cells, j / 12, j % 12);
-    }
-    keys
-}
-
-// The keys of the faces, six a cell, and the nodes opposite the smallest ones.
-pub fn face_keys(cells: &[u32]) -> FaceKeys
-    ensures keys { result.keys ≡ keys_in (replicate 768 0) (6 * min (cell_count cells.now) 128) (face_key cells.now) }
-    ensures rings { result.rings ≡ keys_in (replicate 768 0) (6 * min (cell_count cells.now) 128) (face_ring cells.now) }
-{
-    let mut keys = [0u64; 768];
-    let mut rings = [0u32; 768];
-    let count = 6 * counted(cells);
-    for j in 0..count {
-        let ring = face_nodes(cells, j / 6, j % 6);
-        keys[j] = face_key(ring);
-        rings[j] = opposite(ring);
-    }
-    FaceKeys {
-        keys: keys,
-        rings: rings,
+    let (whole, _) = cells.as_chunks::<8>();
+    for j in 0..6 * whole.len().min(MOST_CELLS) {
+        let ring = face_nodes(&whole[j / 6], j % 6);
+        faces.keys[j] = face_key(ring);
+        faces.rings[j] = opposite(ring);
     }
 }

@@ -2,7 +2,7 @@
 use Prim.Native.Nat.{ℕ, zero, suc, ◌+◌, ◌*◌, ◌/◌, ◌%◌, ◌≤◌, ◌<◌}
 use native.Mathlib.Omega.{arith}
 use mathlib.Core.Path.{◌≡◌, refl, sym, ap, ◌∙◌}
-use mathlib.Core.List.{List, [], ◌++◌, map, append-nil}
+use mathlib.Core.List.{List, [], ◌++◌, append-nil}
 use lib.ListN.{length, get_or, set}
 use Rattle.numbers.specs.Rule.{tabulate}
 use Rattle.numbers.proofs.Prefix.{tabulate_where}
@@ -14,7 +14,7 @@ use Rattle.numbering.specs.Rings.{KeptNumbers}
 use Rattle.numbering.proofs.Steps.{next_after}
 use Rattle.keys.specs.Keys.{edge_key, face_key}
 use Rattle.mesh_children.specs.MeshChildren.{row, children_of, children_by}
-use Rattle.mesh_children.proofs.Output.{Fit, all_whole, same_children}
+use Rattle.mesh_children.proofs.Output.{all_whole}
 use Rattle.refine.specs.Search.{new_from, numbered, Agrees, edge_number, face_number, centre_number, Standing}
 use Rattle.refine.proofs.Rules.{edge_rule, face_rule, centre_rule}
 use Rattle.refine.proofs.Search.{agrees_more, goes_on}
@@ -88,14 +88,19 @@ row_is w c m numbers f below h =
     let inside = row_within w c m below in
     tabulate_where w (λ (k : ℕ). get_or numbers (w * c + k) 0) (f c) (λ k l. h (w * c + k) (omega arith) ∙ rw (slot_row w c k l, slot_place w c k l))
 
+-- children of the same numbers
+same_children : (corner : List ℕ) {edge edge' quad quad' : List ℕ} {center center' : ℕ} → edge ≡ edge' → quad ≡ quad' → center ≡ center'
+    → children corner edge quad center ≡ children corner edge' quad' center'
+same_children corner {edge' = edge'} {quad = quad} {quad' = quad'} {center = center} e q c =
+    ap (λ (x : List ℕ). children corner x quad center) e ∙ ap (λ (x : List ℕ). children corner edge' x center) q ∙ ap (children corner edge' quad') c
+
 pub cell_children : (n : ℕ) (cells edges faces centers : List ℕ) (m c : ℕ) → Standing n cells edges faces centers m → c < m
     → children_of cells edges faces centers c ≡ child_numbers_by same_nodes n cells c
 unfolding children_of
 cell_children n cells edges faces centers m c held below =
-    same_children {corner = row 8 cells c} {center = get_or centers c 0} refl
+    same_children (row 8 cells c)
     (row_is 12 c m edges (λ (d e : ℕ). number_by same_nodes n cells (edge_of cells d e)) below held.of_edges)
     (row_is 6 c m faces (λ (d f : ℕ). number_by same_nodes n cells (face_of cells d f)) below held.of_faces)
-    ∙ ap (children (row 8 cells c) (map (number_by same_nodes n cells) (edges_of cells c)) (map (number_by same_nodes n cells) (faces_of cells c)))
     (held.of_centres c below)
 
 -- of all cells
@@ -106,7 +111,8 @@ chain_alike (suc m) f g h = rw (chain_alike m f g (λ c below. h c (omega arith)
 
 -- In a mesh without a twisted face that is the numbering by rings.
 pub all_children : (n : ℕ) (cells edges faces centers : List ℕ) (room : ℕ) → KeptNumbers n cells → Standing n cells edges faces centers (cell_count cells)
-    → Fit cells edges faces centers room (cell_count cells) → children_by cells edges faces centers room ≡ chain (cell_count cells) (child_numbers n cells)
+    → (12 * cell_count cells ≤ length edges) × (6 * cell_count cells ≤ length faces) × (cell_count cells ≤ length centers) × (64 * cell_count cells ≤ room)
+    → children_by cells edges faces centers room ≡ chain (cell_count cells) (child_numbers n cells)
 all_children n cells edges faces centers room kept held fit =
     let m = cell_count cells in
     ap (λ (k : ℕ). chain k (children_of cells edges faces centers)) (all_whole cells edges faces centers room fit)

@@ -8,9 +8,9 @@ use mathlib.Core.List.{List, [], ◌∷◌}
 use borrow.Author.Tests.{eq-eqb, ne_eqb, eqb-true, eqb-false, lt-ltb, le-ltb}
 use lib.Dec.{eqb}
 use lib.ListN.{length, get_or}
+use Rattle.std.specs.Prelude.{Some, None}
 use Rattle.numbers.specs.Rule.{place_of}
 use Rattle.numbers.proofs.Cases.{cases, never}
-use Rattle.refine.specs.declared.Found.TheVariants.{At, Nothing}
 use Rattle.refine.specs.Search.{is_old, number_beside, found_in}
 
 -- k is none of the first m keys
@@ -45,18 +45,18 @@ new_missing keys m k within new j below e =
     never (sym old ∙ new)
 
 module _ (keys numbers : List ℕ) (m k : ℕ) (within : m ≤ length keys) where
-  pub finds_nothing : Missing keys m k → Nothing ≡ found_in keys numbers m k
+  pub finds_nothing : Missing keys m k → None ≡ found_in keys numbers m k
   finds_nothing none = rw (le-ltb (place_of eqb keys k) m (place_past keys m k within none))
 
-  pub finds_at : (j : ℕ) → j < m → Missing keys j k → get_or keys j 0 ≡ k → At (get_or numbers j 0) ≡ found_in keys numbers m k
+  pub finds_at : (j : ℕ) → j < m → Missing keys j k → get_or keys j 0 ≡ k → Some (get_or numbers j 0) ≡ found_in keys numbers m k
   finds_at j below none e =
       let here : place_of eqb keys k ≡ j =
       omega (arith, place_past keys j k (omega arith) none, place_within keys j k (omega arith) e) in
       rw (here, lt-ltb j m below)
 
 -- and what was found tells whether the key is old
-pub found_old : (keys numbers : List ℕ) (m k x : ℕ) → At x ≡ found_in keys numbers m k → (is_old keys m k ≡ true) × (x ≡ number_beside keys numbers k)
+pub found_old : (keys numbers : List ℕ) (m k x : ℕ) → Some x ≡ found_in keys numbers m k → (is_old keys m k ≡ true) × (x ≡ number_beside keys numbers k)
 found_old keys numbers m k x e = cases (is_old keys m k) (λ t. (t, let here = rw t at e in cc)) (λ f. let here = rw f at e in (cc, cc))
 
-pub found_new : (keys numbers : List ℕ) (m k : ℕ) → Nothing ≡ found_in keys numbers m k → is_old keys m k ≡ false
+pub found_new : (keys numbers : List ℕ) (m k : ℕ) → None ≡ found_in keys numbers m k → is_old keys m k ≡ false
 found_new keys numbers m k e = cases (is_old keys m k) (λ t. let here = rw t at e in cc) (λ f. f)

@@ -10,13 +10,13 @@ use borrow.Author.Tests.{eqb-true, eqb-false, ltb-true, ltb-false}
 use lib.Dec.{eqb, ltb}
 use lib.ListN.{length, get_or, take, set, length-take, take-append-drop, get_or-append}
 use lib.Seq.{get_or-set_same, get_or-set_other, get_or-take, get_or-append-add}
+use Rattle.std.specs.Prelude.{Some, None}
 use Rattle.numbers.specs.Rule.{tabulate, place_of}
 use Rattle.numbers.proofs.Cases.{cases}
 use Rattle.numbers.proofs.FirstMet.{place_holds}
 use Rattle.numbers.proofs.Stored.{length_tabulate, stored_behind}
 use Rattle.numbers.proofs.Tabulate.{tabulate_at}
 use Rattle.keys.specs.Keys.{keys_in}
-use Rattle.refine.specs.declared.Found.TheVariants.{At, Nothing}
 use Rattle.refine.specs.Search.{is_old, number_beside, found_in, new_from, number_of, numbered, Agrees}
 use Rattle.refine.proofs.Places.{new_missing, found_old, found_new}
 use Rattle.refine.proofs.Rules.{Rule}
@@ -54,7 +54,7 @@ module _ (keys old : List ℕ) (m first : ℕ) where
     store x e = rw (held, e) (stored_behind (number_of keys old m first) old m i 0 room)
 
     -- the search in the numbers so far finds what the numbers at the start have
-    pub keeps : (x : ℕ) → At x ≡ found_in keys numbers m (get_or keys (m + i) 0)
+    pub keeps : (x : ℕ) → Some x ≡ found_in keys numbers m (get_or keys (m + i) 0)
         → (set numbers (m + i) x ≡ numbered keys old m first (i + 1)) × (new_from keys m (i + 1) ≡ new_from keys m i)
     keeps x e =
         let k = get_or keys (m + i) 0 in
@@ -63,7 +63,7 @@ module _ (keys old : List ℕ) (m first : ℕ) where
         let beside = ap (λ (l : List ℕ). get_or l (place_of eqb keys k) 0) held ∙ kept i (place_of eqb keys k) (omega arith) below in
         (store x (rw found.0 (found.1 ∙ beside)), rw (add-one, found.0) (zero-add (new_from keys m i)))
 
-    pub gets : (x : ℕ) → x ≡ first + new_from keys m i → Nothing ≡ found_in keys numbers m (get_or keys (m + i) 0)
+    pub gets : (x : ℕ) → x ≡ first + new_from keys m i → None ≡ found_in keys numbers m (get_or keys (m + i) 0)
         → (set numbers (m + i) x ≡ numbered keys old m first (i + 1)) × (new_from keys m (i + 1) ≡ new_from keys m i + 1)
     gets x next e =
         let found = found_new keys numbers m (get_or keys (m + i) 0) e in

@@ -1,4 +1,4 @@
--- What is told of an answer leaves one answer, and what an answer tells of the mesh. Assumes nothing.
+-- What an answer tells of the mesh. Assumes nothing.
 use Prim.Native.Nat.{ℕ, ◌*◌, ◌%◌}
 use mathlib.Core.Path.{◌≡◌, refl, sym, ap, ◌∙◌}
 use mathlib.Core.Bool.{Bool, true, false, cond, not}
@@ -10,14 +10,7 @@ use Rattle.numbers.proofs.Cases.{cases, never, is_false}
 use Rattle.answer.specs.Answer.{Answer, answered, refused}
 use Rattle.faults.specs.Faults.{first_fault}
 use Rattle.numbering.specs.Refinement.{cell_count, twisted}
-use Rattle.refine.specs.Refine.{refined, ToldLosesNothing, AcceptedIsStraight}
-use Rattle.refine.specs.declared.Refined.TheVariants.{Next, Refused}
-
-pub told_loses_nothing : ToldLosesNothing
-told_loses_nothing (Next x) (Next y) h = cc
-told_loses_nothing (Next x) (Refused y) h = cc
-told_loses_nothing (Refused x) (Next y) h = cc
-told_loses_nothing (Refused x) (Refused y) h = cc
+use Rattle.refine.specs.Refine.{refined, AcceptedIsStraight}
 
 abbrev accepts : Answer ℕ → Bool
 accepts (answered free) = true

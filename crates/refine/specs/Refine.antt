@@ -1,10 +1,8 @@
 -- What a refinement answers and leaves in the output. Document 01, "Refinement", with document 02, 2/12. Definitions and claims only.
 use Rattle.std.specs.Prelude.{ℕ, ◌*◌, ◌%◌, ◌≡◌, false, cond, not, List, eqb, ltb, length}
-use Rattle.answer.specs.Answer.{Answer, answered, refused, and_then, LosesNothing}
+use Rattle.answer.specs.Answer.{Answer, answered, refused, and_then}
 use Rattle.faults.specs.Faults.{first_fault}
 use Rattle.numbering.specs.Refinement.{cell_count, chain, twisted, next, child_numbers}
-use Rattle.refine.specs.declared.Refined.{Refined}
-use Rattle.refine.specs.declared.Refined.TheVariants.{Next, Refused}
 
 -- "Refinement: 7 (n, then list longer than 1,024 numbers), 8 (list, then output), then cell by cell 9 before 10." "14, twisted face, after all cells have
 -- passed 9 and 10" "The answer is the next free number."
@@ -25,15 +23,6 @@ all_children n cells = chain (cell_count cells) (child_numbers n cells)
 -- what a refinement with this answer writes
 abbrev pub children_in : Answer ℕ → ℕ → List ℕ → Answer (List ℕ)
 children_in found n cells = and_then found (λ (free : ℕ). answered (all_children n cells))
-
--- the number and the value of each case
-abbrev pub told : Refined → Answer ℕ
-told (Next free) = answered free
-told (Refused number) = refused number
-
--- So the contract leaves one possible answer.
-abbrev pub ToldLosesNothing : Type 0
-ToldLosesNothing = LosesNothing told
 
 -- An accepted mesh has no twisted face, so that numbering's `NoTear` and `GoodMeshesKeepTheirNumbers` speak of it.
 abbrev pub AcceptedIsStraight : Type 0

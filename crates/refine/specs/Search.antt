@@ -1,10 +1,8 @@
 -- What the search, and the numbering of one cell's edges or faces, owe whatever the keys stand for. The code numbers faces by their nodes, as document
 -- 01 has it, and then looks whether those with one number have one ring. No public promise cites these. Definitions only.
-use Rattle.std.specs.Prelude.{ℕ, ◌+◌, ◌*◌, ◌-◌, ◌/◌, ◌%◌, ◌≤◌, ◌<◌, ◌≡◌, Bool, cond, not, List, ◌++◌, eqb, ltb, get_or, take, drop}
+use Rattle.std.specs.Prelude.{ℕ, Option, Some, None, ◌+◌, ◌*◌, ◌-◌, ◌/◌, ◌%◌, ◌≤◌, ◌<◌, ◌≡◌, Bool, cond, not, List, ◌++◌, eqb, ltb, get_or, take, drop}
 use Rattle.numbers.specs.Rule.{tabulate, count, place_of}
 use Rattle.numbering.specs.Refinement.{same_nodes, centre, edge_of, face_of, number_by}
-use Rattle.refine.specs.declared.Found.{Found}
-use Rattle.refine.specs.declared.Found.TheVariants.{At, Nothing}
 
 -- one of the first m keys is k
 abbrev pub is_old : List ℕ → ℕ → ℕ → Bool
@@ -15,8 +13,8 @@ abbrev pub number_beside : List ℕ → List ℕ → ℕ → ℕ
 number_beside keys numbers k = get_or numbers (place_of eqb keys k) 0
 
 -- "The search over earlier cells stops at the first match": what it finds among the first m keys
-abbrev pub found_in : List ℕ → List ℕ → ℕ → ℕ → Found
-found_in keys numbers m k = cond (is_old keys m k) (At (number_beside keys numbers k)) Nothing
+abbrev pub found_in : List ℕ → List ℕ → ℕ → ℕ → Option ℕ
+found_in keys numbers m k = cond (is_old keys m k) (Some (number_beside keys numbers k)) None
 
 -- how many of the i keys from m on are none of the first m
 abbrev pub new_from : List ℕ → ℕ → ℕ → ℕ

@@ -6,40 +6,42 @@
 ghost use Rattle.std.specs.Prelude.{◌≡◌, cond, not, ◌+◌, ◌*◌, ◌^◌, ◌<◌, ◌≤◌, eqb, length, get_or};
 ghost use Rattle.numbers.specs.Rule.{all};
 ghost use Rattle.answer.specs.Answer.{answered, refused, left};
+ghost use Rattle.answer.specs.Told.{told};
 ghost use Rattle.faults.specs.Faults.{first_fault};
 ghost use Rattle.numbering.specs.Refinement.{same_nodes, twisted, cell_count, next, next_by};
 ghost use Rattle.keys.specs.Keys.{face_key, face_ring};
-ghost use Rattle.refine.specs.Refine.{refined, children_in, told};
+ghost use Rattle.refine.specs.Refine.{refined, children_in};
 ghost use Rattle.refine.specs.Search.{found_in, new_from, numbered, Agrees, face_number, Standing, Between, by_number, RingsByNumber};
 
-// The next free number, or a refusal's number.
+use answer::Refusal;
+use keys::{FaceKeys, MOST_CELLS, MOST_EDGES, MOST_FACES};
+
+// As many numbers as the most cells have edges, faces and centres.
+const MOST_NUMBERS: usize = 2432;
+
+// The numbers of a mesh's edges, faces and centres, cell after cell.
 #[derive(Drop)]
-pub enum Refined {
-    Next(u32),
-    Refused(u32),
+struct Numbers {
+    edges: [u32; MOST_EDGES],
+    faces: [u32; MOST_FACES],
+    centers: [u32; MOST_CELLS],
 }
 
-// The number of an edge or a face that an earlier cell has, or nothing.
-#[derive(Drop)]
-enum Found {
-    At(u32),
-    Nothing,
-}
-
-// The number of `key`, if one of the edges or faces of the cells before `cell` has that key: each cell has `width` of them.
-fn find(keys: &[u64], numbers: &[u32], width: usize, cell: usize, key: u64) -> Found
+// The number of `key`, if one of the edges or faces of the cells before `cell` has that key: each cell has `width` of them. A `for` gives no value, so the
+// search over the cells counts them itself.
+fn find(keys: &[u64], numbers: &[u32], width: usize, cell: usize, key: u64) -> Option<u32>
     requires { (width * cell ≤ length keys.now) × (width * cell ≤ length numbers.now) }
     ensures { result ≡ found_in keys.now numbers.now (width * cell) key }
 {
     let mut c = 0usize;
     'search: loop {
         if c == cell {
-            break 'search Found::Nothing;
+            break 'search None;
         }
         for i in 0..width {
             let at = width * c + i;
             if keys[at] == key {
-                break 'search Found::At(numbers[at]);
+                break 'search Some(numbers[at]);
             }
         }
         c += 1;
@@ -56,11 +58,11 @@ fn number(keys: &[u64], numbers: &mut [u32], width: usize, cell: usize, first: u
     let mut next = first;
     for i in 0..width {
         let at = width * cell + i;
-        match find(keys, &numbers[..], width, cell, keys[at]) {
-            Found::At(number) => {
+        match find(keys, numbers, width, cell, keys[at]) {
+            Some(number) => {
                 numbers[at] = number;
             }
-            Found::Nothing => {
+            None => {
                 numbers[at] = next;
                 next += 1;
             }
@@ -69,111 +71,118 @@ fn number(keys: &[u64], numbers: &mut [u32], width: usize, cell: usize, first: u
     next
 }
 
-// Numbers the edges, the faces and the centre of each cell, cell after cell. The answer is the next free number.
-fn number_cells(
-    n: u32,
-    cells: &[u32],
-    face_keys: &[u64],
-    edges: &mut [u32],
-    faces: &mut [u32],
-    centers: &mut [u32],
-) -> u32
-    requires n_bound { (n ≤ 1024) × (length cells.now ≤ 1024) × (first_fault n 8 cells.now ≡ 0) }
-    requires edges_len { (length edges.old ≡ 1536) × (length faces.old ≡ 768) × (length centers.old ≡ 128) }
-    requires face_keys_len { (length face_keys.now ≡ 768) × Agrees face_keys.now (6 * cell_count cells.now) (face_key cells.now) }
-    ensures free { result ≡ next_by same_nodes n cells.now }
-    ensures numbers { Standing n cells.now edges.new faces.new centers.new (cell_count cells.now) }
-    ensures few { result ≤ n + 19 * cell_count cells.now }
-{
-    let edge_keys = keys::edge_keys(cells);
-    let mut free = n;
-    let count = cells.len() / 8;
-    let mut cell: usize = 0;
-    while cell < count {
-        free = number(&edge_keys, &mut *edges, 12, cell, free);
-        free = number(face_keys, &mut *faces, 6, cell, free);
-        centers[cell] = free;
-        free += 1;
-        cell += 1;
-    }
-    free
-}
-
 // For each number of a face, from `first` up, the ring of the last face that has it.
-fn rings_by_number(first: u32, faces: &[u32], rings: &[u32], count: usize) -> [u32; 2432]
-    requires { (count ≤ length faces.now) × (count ≤ length rings.now) × Between first faces.now count }
-    ensures { RingsByNumber first faces.now rings.now count result }
+fn rings_by_number(first: u32, faces: &[u32], rings: &[u32]) -> [u32; MOST_NUMBERS]
+    requires { (length rings.now ≡ length faces.now) × Between first faces.now (length faces.now) }
+    ensures { RingsByNumber first faces.now rings.now (length faces.now) result }
 {
-    let mut last = [0u32; 2432];
-    for j in 0..count {
-        last[(faces[j] - first) as usize] = rings[j];
+    let mut last = [0u32; MOST_NUMBERS];
+    for (j, face) in faces.iter().enumerate() {
+        last[(*face - first) as usize] = rings[j];
     }
     last
 }
 
 // Whether some face has another ring than the one kept for its number.
-fn rings_differ(first: u32, faces: &[u32], rings: &[u32], kept: &[u32], count: usize) -> bool
-    requires { (count ≤ length faces.now) × (count ≤ length rings.now) × (length kept.now ≡ 2432) × Between first faces.now count }
-    ensures { result ≡ not (all count (λ j. eqb (by_number first faces.now kept.now j) (get_or rings.now j 0))) }
+fn rings_differ(first: u32, faces: &[u32], rings: &[u32], kept: &[u32; MOST_NUMBERS]) -> bool
+    requires { (length rings.now ≡ length faces.now) × Between first faces.now (length faces.now) }
+    ensures { result ≡ not (all (length faces.now) (λ j. eqb (by_number first faces.now kept.now j) (get_or rings.now j 0))) }
 {
-    for j in 0..count {
-        if kept[(faces[j] - first) as usize] != rings[j] {
+    for (j, face) in faces.iter().enumerate() {
+        if kept[(*face - first) as usize] != rings[j] {
             return true;
         }
     }
     false
 }
 
-// Whether two faces have the same nodes and different rings, where `faces` holds their numbers by their nodes, and `rings` the nodes opposite the smallest.
-fn twisted(n: u32, cells: &[u32], faces: &[u32], rings: &[u32]) -> bool
-    requires cells_len_bound { (length cells.now ≤ 1024) × (first_fault n 8 cells.now ≡ 0) × (length faces.now ≡ 768) × (length rings.now ≡ 768) }
-    requires agrees { Agrees faces.now (6 * cell_count cells.now) (face_number n cells.now) × (next_by same_nodes n cells.now ≤ n + 2432) }
-    requires agrees_2 { Agrees rings.now (6 * cell_count cells.now) (face_ring cells.now) }
-    ensures { result ≡ twisted cells.now }
-{
-    let count = 6 * (cells.len() / 8);
-    let kept = rings_by_number(n, faces, rings, count);
-    rings_differ(n, faces, rings, &kept, count)
+// A mesh that can be refined: of at most 1,024 nodes and 128 cells, in none of which there is a fault.
+#[derive(Clone, Copy)]
+struct Mesh<'a> {
+    n: u32,
+    cells: &'a [u32],
+    ghost few_nodes: { n ≤ 1024 },
+    ghost few_cells: { length cells.now ≤ 1024 },
+    ghost faultless: { first_fault n 8 cells.now ≡ 0 },
 }
 
-// Numbers all cells, and then writes their children, unless a face is twisted.
-fn refine_cells(n: u32, cells: &[u32], out: &mut [u32]) -> Refined
-    requires { (n ≤ 1024) × (length cells.now ≤ 1024) × (64 * cell_count cells.now ≤ length out.old) × (first_fault n 8 cells.now ≡ 0) }
-    ensures answer { told result ≡ cond (twisted cells.now) (refused 14) (answered (next n cells.now)) }
-    ensures output { out.new ≡ left (children_in (told result) n cells.now) out.old }
-{
-    let mut edges = [0u32; 1536];
-    let mut faces = [0u32; 768];
-    let mut centers = [0u32; 128];
-    let found = keys::face_keys(cells);
-    let free = number_cells(n, cells, &found.keys, &mut edges, &mut faces, &mut centers);
-    if twisted(n, cells, &faces, &found.rings) {
-        return Refined::Refused(14);
+impl<'a> Mesh<'a> {
+    // Numbers the edges, the faces and the centre of each cell, cell after cell. The answer is the next free number.
+    fn number_cells(&self, face_keys: &[u64; MOST_FACES], numbers: &mut Numbers) -> u32
+        requires { Agrees face_keys.now (6 * cell_count self.now.cells.now) (face_key self.now.cells.now) }
+        ensures free { result ≡ next_by same_nodes self.now.n self.now.cells.now }
+        ensures numbers { Standing self.now.n self.now.cells.now numbers.new.edges numbers.new.faces numbers.new.centers (cell_count self.now.cells.now) }
+        ensures few { result ≤ self.now.n + 19 * cell_count self.now.cells.now }
+    {
+        let mut edge_keys = [0; MOST_EDGES];
+        keys::edge_keys(self.cells, &mut edge_keys);
+        let mut free = self.n;
+        for cell in 0..self.cells.len() / 8 {
+            free = number(&edge_keys, &mut numbers.edges, 12, cell, free);
+            free = number(face_keys, &mut numbers.faces, 6, cell, free);
+            numbers.centers[cell] = free;
+            free += 1;
+        }
+        free
     }
-    mesh_children::write_cells(cells, &edges, &faces, &centers, out);
-    Refined::Next(free)
+
+    // Whether two faces have the same nodes and different rings, where `faces` holds their numbers by their nodes, and `rings` the nodes opposite the smallest.
+    fn twisted(&self, faces: &[u32; MOST_FACES], rings: &[u32; MOST_FACES]) -> bool
+        requires numbers { Agrees faces.now (6 * cell_count self.now.cells.now) (face_number self.now.n self.now.cells.now) }
+        requires few { next_by same_nodes self.now.n self.now.cells.now ≤ self.now.n + 2432 }
+        requires rings { Agrees rings.now (6 * cell_count self.now.cells.now) (face_ring self.now.cells.now) }
+        ensures { result ≡ twisted self.now.cells.now }
+    {
+        let count = 6 * (self.cells.len() / 8);
+        let faces = &faces[..count];
+        let rings = &rings[..count];
+        let kept = rings_by_number(self.n, faces, rings);
+        rings_differ(self.n, faces, rings, &kept)
+    }
+
+    // Numbers all cells, and then writes their children, unless a face is twisted.
+    fn refine(&self, out: &mut [u32]) -> Result<u32, Refusal>
+        requires { 64 * cell_count self.now.cells.now ≤ length out.old }
+        ensures answer { told result ≡ cond (twisted self.now.cells.now) (refused 14) (answered (next self.now.n self.now.cells.now)) }
+        ensures output { out.new ≡ left (children_in (told result) self.now.n self.now.cells.now) out.old }
+    {
+        let mut numbers = Numbers {
+            edges: [0; MOST_EDGES],
+            faces: [0; MOST_FACES],
+            centers: [0; MOST_CELLS],
+        };
+        let mut face_keys = FaceKeys {
+            keys: [0; MOST_FACES],
+            rings: [0; MOST_FACES],
+        };
+        keys::face_keys(self.cells, &mut face_keys);
+        let free = self.number_cells(&face_keys.keys, &mut numbers);
+        if self.twisted(&numbers.faces, &face_keys.rings) {
+            return Err(Refusal::Twisted);
+        }
+        mesh_children::write_cells(
+            self.cells,
+            &numbers.edges,
+            &numbers.faces,
+            &numbers.centers,
+            out,
+        );
+        Ok(free)
+    }
 }
 
 // Refines a mesh of n nodes and eight node numbers a cell, into 64 numbers a cell.
-pub fn refine(n: u32, cells: &[u32], out: &mut [u32]) -> Refined
+#[tactic(auto, using(faults::proofs::Faults::refuses), unfolding(crate::specs::Refine::refined))]
+pub fn refine(n: u32, cells: &[u32], out: &mut [u32]) -> Result<u32, Refusal>
     ensures answer { told result ≡ refined n cells.now (length out.old) }
     ensures output { out.new ≡ left (children_in (told result) n cells.now) out.old }
 {
-    if n > 1024 {
-        return Refined::Refused(7);
+    if n > 1024 || cells.len() > 1024 {
+        return Err(Refusal::Limit);
     }
-    if cells.len() > 1024 {
-        return Refined::Refused(7);
+    if cells.len() % 8 != 0 || out.len() < 64 * (cells.len() / 8) {
+        return Err(Refusal::Length);
     }
-    if cells.len() % 8 != 0 {
-        return Refined::Refused(8);
-    }
-    if out.len() < 64 * (cells.len() / 8) {
-        return Refined::Refused(8);
-    }
-    let fault = faults::first_fault(n, cells);
-    if fault != 0 {
-        return Refined::Refused(fault);
-    }
-    refine_cells(n, cells, out)
+    faults::first_fault(n, cells)?;
+    Mesh { n, cells }.refine(out)
 }

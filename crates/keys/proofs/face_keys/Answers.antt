@@ -1,31 +1,30 @@
 -- `keys::face_keys` meets its contract: what is stored are the keys of the faces passed, and the nodes opposite the smallest ones. Assumes nothing.
-use Prim.Native.Nat.{◌*◌, min}
+use Prim.Native.Nat.{◌*◌, ◌/◌, ◌%◌, min}
 use native.Mathlib.Omega.{arith}
-use mathlib.Core.Path.{◌≡◌, refl, ap, ◌∙◌}
-use Rattle.numbers.proofs.Stored.{stores_none, stores_more}
+use mathlib.Core.Path.{◌≡◌, ap, ◌∙◌}
+use Rattle.numbers.proofs.Stored.{stores_more, stores_all}
 use Rattle.numbering.specs.Refinement.{cell_count}
 use Rattle.keys.specs.Keys.{key, opposite}
+use Rattle.keys.proofs.Keys.{face_is}
 use Rattle.keys.proofs.face_keys.Goals as goal
-
-pub face_nodes-ring-requires : goal.face_nodes-ring-requires
-face_nodes-ring-requires c = let few = c.counted-count.ensures in (omega arith, omega arith)
 
 pub loop-j-preserved : goal.loop-j-preserved
 loop-j-preserved c =
-    let few = c.counted-count.ensures in
+    let few = c.min-j-end.ensures in
+    let many = c.as_chunks.ensures.front_len in
+    let j = c.loop-j.j in
     let inv = c.loop-j.invariant in
-    let ring = c.face_nodes-ring.ensures in (
-      inv.0,
-      inv.1,
-      stores_more _ inv.2 (omega arith) (omega arith) (c.face_key.ensures ∙ ap key ring),
-      stores_more _ inv.3 (omega arith) (omega arith) (c.opposite.ensures ∙ ap opposite ring),
+    let nodes = c.face_nodes-ring.ensures ∙ face_is _ _ c.as_chunks.ensures.front (j / 6) (omega arith) (j % 6) (omega arith) in (
+      stores_more _ inv.0 (omega arith) (omega arith) (c.face_key.ensures ∙ ap key nodes),
+      stores_more _ inv.1 (omega arith) (omega arith) (c.opposite.ensures ∙ ap opposite nodes),
     )
 
 pub returns : goal.returns
 returns c =
-    let few = c.counted-count.ensures in
-    let last : c.loop-j.j ≡ 6 * min (cell_count c.args.cells.now) 128 = omega (arith, c.loop-j.invariant.2.within) in
-    record { keys = rw (← last) c.loop-j.invariant.2.stored; rings = rw (← last) c.loop-j.invariant.3.stored }
-
-pub loop-j-init : goal.loop-j-init
-loop-j-init c = (refl, refl, stores_none, stores_none)
+    let few = c.min-j-end.ensures in
+    let many = c.as_chunks.ensures.front_len in
+    let last : 6 * c.min-j-end.result ≡ 6 * min (cell_count c.args.cells.now) 128 = omega arith in
+    record {
+      keys = rw (← last) (stores_all c.loop-j.invariant.0 (omega arith));
+      rings = rw (← last) (stores_all c.loop-j.invariant.1 (omega arith));
+    }

@@ -6,9 +6,6 @@ use Rattle.refine.proofs.find.Given as goal
 abbrev pub invariant-loop-i : goal.invariant-loop-i
 invariant-loop-i l = (l.c < l.cell) × (l.width * l.c + l.width ≤ l.width * l.cell) × (l.i ≤ l.width) × Missing l.keys (l.width * l.c + l.i) l.key
 
-abbrev pub decreases-loop-i : goal.decreases-loop-i
-decreases-loop-i l = l.width - l.i
-
 abbrev pub invariant-search : goal.invariant-search
 invariant-search l = (l.c ≤ l.cell) × Missing l.keys (l.width * l.c) l.key
 

@@ -6,7 +6,7 @@ use mathlib.Core.Path.{◌≡◌, refl, sym}
 use borrow.Author.Rules.{rules}
 use lib.ListN.{length, length-set}
 use Rattle.refine.proofs.Search.{numbered_none, keeps, gets}
-use Rattle.refine.proofs.number.Goals.{in-At, in-Nothing}
+use Rattle.refine.proofs.number.Goals.{in-Some, in-None}
 use Rattle.refine.proofs.number.Goals as goal
 
 pub loop-i-init : goal.loop-i-init
@@ -20,16 +20,16 @@ loop-i-preserved c =
     let m = args.width * args.cell in
     let room : m + i < length args.numbers.now = omega arith in
     elim c.match-find.branch [
-      | in-At w ↦
-          let step = keeps args.keys.now args.numbers.now m args.first _ i room inv.3 _ w.in-At.ensures in (
+      | in-Some w ↦
+          let step = keeps args.keys.now args.numbers.now m args.first _ i room inv.3 _ w.in-Some.ensures in (
             omega arith,
             rw w.numbers-is (simp length-set inv.1),
             omega (arith, w.next-is),
             rw w.numbers-is step.0,
             omega (arith, w.next-is, step.1, inv.4),
           )
-      | in-Nothing w ↦
-          let step = gets args.keys.now args.numbers.now m args.first _ i room inv.3 _ inv.4 w.in-Nothing.ensures in (
+      | in-None w ↦
+          let step = gets args.keys.now args.numbers.now m args.first _ i room inv.3 _ inv.4 w.in-None.ensures in (
             omega arith,
             rw w.numbers-is (simp length-set inv.1),
             omega (arith, w.next-is),

@@ -1,5 +1,5 @@
 -- `refine::number` meets its contract: a turn stores the number of one key more. Assumes nothing.
-use Prim.Native.Nat.{◌+◌, ◌*◌, ◌-◌, ◌≤◌}
+use Prim.Native.Nat.{◌+◌, ◌*◌, ◌≤◌}
 use mathlib.Core.Path.{◌≡◌}
 use lib.ListN.{length}
 use Rattle.refine.specs.Search.{numbered, new_from}
@@ -12,6 +12,3 @@ invariant-loop-i l =
     × (l.next ≤ l.first + l.i)
     × (l.numbers ≡ numbered l.keys l.initial.numbers (l.width * l.cell) l.first l.i)
     × (l.next ≡ l.first + new_from l.keys (l.width * l.cell) l.i)
-
-abbrev pub decreases-loop-i : goal.decreases-loop-i
-decreases-loop-i l = l.width - l.i

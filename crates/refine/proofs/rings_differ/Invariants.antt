@@ -1,5 +1,5 @@
 -- `refine::rings_differ` meets its contract: the faces passed have the rings that are kept. Assumes nothing.
-use Prim.Native.Nat.{ℕ, ◌-◌, ◌≤◌}
+use Prim.Native.Nat.{ℕ}
 use mathlib.Core.Path.{◌≡◌}
 use mathlib.Core.Bool.{true}
 use lib.Dec.{eqb}
@@ -9,7 +9,4 @@ use Rattle.refine.specs.Search.{by_number}
 use Rattle.refine.proofs.rings_differ.Given as goal
 
 abbrev pub invariant-loop-j : goal.invariant-loop-j
-invariant-loop-j l = (l.j ≤ l.count) × (all l.j (λ (i : ℕ). eqb (by_number l.first l.faces l.kept i) (get_or l.rings i 0)) ≡ true)
-
-abbrev pub decreases-loop-j : goal.decreases-loop-j
-decreases-loop-j l = l.count - l.j
+invariant-loop-j l = all l.j (λ (i : ℕ). eqb (by_number l.first l.faces l.kept i) (get_or l.rings i 0)) ≡ true
