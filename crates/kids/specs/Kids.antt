@@ -26,6 +26,10 @@ unfoldable pub kids_of : ℕ → List ℕ → Answer (List ℕ)
 kids_of n cells =
     and_then (refined n cells 8192) (λ (next : ℕ). answered (report (cell_count cells) next (all_children n cells)))
 
+-- and those of the mesh that a file has
+abbrev pub kids_in : List ℕ → Answer (List ℕ)
+kids_in s = and_then (mesh_of s) (λ (m : Mesh). kids_of m.nodes m.corners)
+
 -- what is printed for the bytes of a file
 unfoldable pub printed : List ℕ → List ℕ
 printed s = shown (and_then (mesh_of s) (λ (m : Mesh). kids_of m.nodes m.corners))

@@ -1,104 +1,96 @@
-// What `hexkids` prints. The private functions write text into a buffer, from a place on, and answer the place behind it.
+// What `hexkids` prints. Each private function appends its text, or answers that it does not fit; `list` has room for all of them.
 #![tactic(auto)]
 
-ghost use Rattle.std.specs.Prelude.{◌≡◌, ◌+◌, ◌*◌, ◌<◌, ◌≤◌, length, take};
-ghost use Rattle.buffer.specs.Put.{Wrote};
-ghost use Rattle.text.specs.Text.{decimal, shown};
-ghost use Rattle.kids.specs.Table.{behind, line, table};
-ghost use Rattle.kids.specs.Kids.{head_line, report, kids_of, printed};
+ghost use Rattle.std.specs.Prelude.{◌≡◌, ◌+◌, ◌*◌, ◌/◌, ◌≤◌, ◌++◌, [], length, IsOk, OnOk, OnErr, IfErr};
+ghost use Rattle.arrayvec.specs.ArrayVec.{array_vec_len};
+ghost use Rattle.answer.specs.Answer.{answered, refused};
+ghost use Rattle.answer.specs.Told.{number};
+ghost use Rattle.kids.specs.Table.{line, table};
+ghost use Rattle.kids.specs.Kids.{head_line, report, kids_in, printed};
 
-use hxm::{CELL_NUMBERS, MOST_NUMBERS, MOST_WORDS, Reading};
-use refine::Refined;
+use answer::Refusal;
+use arrayvec::{ArrayVec, CapacityError};
+use hxm::{CELL_NUMBERS, MOST_NUMBERS, MOST_WORDS};
 
-// Writes a number of 32 bits, which has at most ten digits.
-fn put_number(out: &mut [u8], at: usize, x: u32) -> usize
-    requires { at + 10 ≤ length out.old }
-    ensures { Wrote out.old out.new at result (decimal x) × (result ≤ at + 10) }
+// The head line has at most 34 bytes, and the children of 128 cells eleven bytes a number.
+const MOST_BYTES: usize = 90146;
+
+// A line of eight numbers: a space behind each but the last, and a newline behind that.
+fn push_line(out: &mut ArrayVec<u8, MOST_BYTES>, numbers: &[u32; 8]) -> Result<(), CapacityError>
+    ensures room { array_vec_len out.old + length (line 8 numbers.now 0) ≤ 90146 → IsOk result }
+    ensures ok { OnOk result (out.new.items ≡ out.old.items ++ line 8 numbers.now 0) }
 {
-    text::put_decimal(out, at, x as u64)
-}
-
-// What stands behind number j of w in a line.
-fn behind(j: usize, w: usize) -> u8
-    requires { j < w }
-    ensures { result ≡ behind j w }
-{
-    if j + 1 == w { b'\n' } else { b' ' }
-}
-
-// Writes w numbers of a list, a space between any two and a newline behind the last.
-fn put_line(out: &mut [u8], at: usize, numbers: &[u32], from: usize, w: usize) -> usize
-    requires { (from + w ≤ length numbers.now) × (at + 11 * w ≤ length out.old) }
-    ensures { Wrote out.old out.new at result (line w numbers.now from) × (result ≤ at + 11 * w) }
-{
-    let mut end = at;
-    let mut j: usize = 0;
-    while j < w {
-        end = put_number(&mut *out, end, numbers[from + j]);
-        end = buffer::put_byte(&mut *out, end, behind(j, w));
-        j += 1;
+    for (j, number) in numbers.iter().enumerate() {
+        text::push_decimal(&mut *out, u64::from(*number))?;
+        let behind = if j < 7 { b' ' } else { b'\n' };
+        out.try_extend_from_slice(&[behind])?;
     }
-    end
+    Ok(())
 }
 
-// Writes n lines of w numbers each.
-fn put_table(out: &mut [u8], at: usize, numbers: &[u32], w: usize, n: usize) -> usize
-    requires { (w * n ≤ length numbers.now) × (at + 11 * (w * n) ≤ length out.old) }
-    ensures { Wrote out.old out.new at result (table w numbers.now n) }
+// A line for each eight numbers of a list.
+fn push_table(out: &mut ArrayVec<u8, MOST_BYTES>, numbers: &[u32]) -> Result<(), CapacityError>
+    ensures room { array_vec_len out.old + length (table 8 numbers.now (length numbers.now / 8)) ≤ 90146 → IsOk result }
+    ensures ok { OnOk result (out.new.items ≡ out.old.items ++ table 8 numbers.now (length numbers.now / 8)) }
 {
-    let mut end = at;
-    let mut i: usize = 0;
-    while i < n {
-        end = put_line(&mut *out, end, numbers, w * i, w);
-        i += 1;
+    let (lines, _) = numbers.as_chunks::<8>();
+    for line in lines {
+        push_line(&mut *out, line)?;
     }
-    end
+    Ok(())
 }
 
-// Writes the head line, which says how many children and nodes there are.
-fn put_head(out: &mut [u8], cells: u32, next: u32) -> usize
-    requires { (cells ≤ 128) × (34 ≤ length out.old) }
-    ensures { Wrote out.old out.new 0 result (head_line cells next) × (result ≤ 34) }
+// The head line, which says how many children and nodes there are.
+fn push_head(out: &mut ArrayVec<u8, MOST_BYTES>, cells: u32, next: u32) -> Result<(), CapacityError>
+    requires { cells ≤ 128 }
+    ensures room { array_vec_len out.old + length (head_line cells next) ≤ 90146 → IsOk result }
+    ensures ok { OnOk result (out.new.items ≡ out.old.items ++ head_line cells next) }
 {
-    let cells_word = buffer::put_bytes(&mut *out, 0, b"cells ");
-    let count = put_number(&mut *out, cells_word, 8 * cells);
-    let nodes_word = buffer::put_bytes(&mut *out, count, b" nodes ");
-    let nodes = put_number(&mut *out, nodes_word, next);
-    buffer::put_byte(out, nodes, b'\n')
+    out.try_extend_from_slice(b"cells ")?;
+    text::push_decimal(&mut *out, u64::from(8 * cells))?;
+    out.try_extend_from_slice(b" nodes ")?;
+    text::push_decimal(&mut *out, u64::from(next))?;
+    out.try_extend_from_slice(b"\n")
 }
 
-fn put_report(out: &mut [u8], cells: u32, next: u32, children: &[u32]) -> usize
-    requires { (cells ≤ 128) × (64 * cells ≤ length children.now) × (90146 ≤ length out.old) }
-    ensures { Wrote out.old out.new 0 result (report cells next children.now) }
+// The report of a refinement, for which an empty text has room.
+fn push_report(
+    out: &mut ArrayVec<u8, MOST_BYTES>,
+    cells: u32,
+    next: u32,
+    children: &[u32],
+) -> Result<(), CapacityError>
+    requires { (cells ≤ 128) × (length children.now ≡ 64 * cells) }
+    ensures room { out.old.items ≡ [] → IsOk result }
+    ensures ok { OnOk result (out.new.items ≡ out.old.items ++ report cells next children.now) }
 {
-    let head = put_head(&mut *out, cells, next);
-    put_table(out, head, children, 8, 8 * (cells as usize))
+    push_head(&mut *out, cells, next)?;
+    push_table(out, children)
 }
 
-fn put_children(out: &mut [u8], n: u32, cells: &[u32]) -> usize
-    requires { (length cells.now ≤ 1024) × (90146 ≤ length out.old) }
-    ensures { Wrote out.old out.new 0 result (shown (kids_of n cells.now)) }
-{
-    let mut children = [0u32; 8192];
-    let count = (cells.len() / 8) as u32;
-    match refine::refine(n, cells, &mut children) {
-        Refined::Next(next) => put_report(out, count, next, &children),
-        Refined::Refused(k) => text::put_refused(out, 0, k),
-    }
-}
-
-// Writes what `hexkids` prints for a file, and answers its length. The buffer has room for the children of 128 cells, eleven bytes a number.
-pub fn list(bytes: &[u8], out: &mut [u8; 90146]) -> usize
-    ensures text { Wrote out.old out.new 0 result (printed bytes.now) }
-    ensures within { (result ≤ length out.new) × (result ≡ length (take result out.new)) }
+// The children of the mesh that a file has. Nothing is appended where there is a refusal.
+fn push_kids(out: &mut ArrayVec<u8, MOST_BYTES>, bytes: &[u8]) -> Result<(), Refusal>
+    requires { out.old.items ≡ [] }
+    ensures ok { OnOk result (kids_in bytes.now ≡ answered out.new.items) }
+    ensures err { IfErr result (λ r. kids_in bytes.now ≡ refused (number r)) }
+    ensures unchanged { OnErr result (out.new ≡ out.old) }
 {
     let mut nodes = [0u64; MOST_WORDS];
     let mut cells = [0u32; MOST_NUMBERS];
-    match hxm::read(bytes, &mut nodes, &mut cells) {
-        Reading::Mesh(n, c) => {
-            let count = CELL_NUMBERS * (c as usize);
-            put_children(out, n, &cells[..count])
-        }
-        Reading::Refused(k) => text::put_refused(out, 0, k),
+    let counts = hxm::read(bytes, &mut nodes, &mut cells)?;
+    let corners = CELL_NUMBERS * (counts.cells as usize);
+    let mut children = [0u32; 8 * MOST_NUMBERS];
+    let next = refine::refine(counts.nodes, &cells[..corners], &mut children)?;
+    let _ = push_report(out, counts.cells, next, &children[..8 * corners]);
+    Ok(())
+}
+
+// Makes the text what `hexkids` prints for a file, whatever it was.
+pub fn list(bytes: &[u8], out: &mut ArrayVec<u8, MOST_BYTES>)
+    ensures { out.new.items ≡ printed bytes.now }
+{
+    out.clear();
+    if let Err(refusal) = push_kids(&mut *out, bytes) {
+        let _ = text::push_refused(out, refusal);
     }
 }

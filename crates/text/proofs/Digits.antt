@@ -2,13 +2,18 @@
 use Prim.Native.Nat.{ℕ, zero, suc, ◌-◌, ◌*◌, ◌/◌, ◌%◌, ◌+◌, ◌^◌, ◌≤◌, ◌<◌}
 use native.Mathlib.Nat.{not-suc-le-zero, pow-succ'}
 use native.Mathlib.Omega.{arith}
-use mathlib.Core.Path.{◌≡◌, refl, sym, ◌∙◌}
-use mathlib.Core.List.{[], ◌∷◌, ◌++◌}
+use mathlib.Core.Path.{◌≡◌, refl, sym, ◌∙◌, ap}
+use mathlib.Core.List.{List, [], ◌∷◌, ◌++◌}
 use lib.Dec.{ltb}
 use lib.ListN.{length, length-append}
 use borrow.Author.Tests.{lt-ltb, le-ltb, ltb-true, ltb-false}
 use Rattle.numbers.proofs.Cases.{cases}
-use Rattle.text.specs.Text.{decimal_in, SameText}
+use Rattle.std.specs.Fmt.{decimal as std_decimal, signed_decimal as std_signed}
+use Rattle.std.proofs.lemmas.Fmt.{decimal_digit, decimal_step}
+use mir.Syntax.{w64}
+use mir.Val.{SFits}
+use lib.IntN.{ℤ, pos, negsuc}
+use Rattle.text.specs.Text.{decimal_in, decimal, signed_decimal, SameText}
 
 pub decimal_last : (k x : ℕ) → 0 < k → x < 10 → decimal_in k x ≡ (48 + x) ∷ []
 unfolding decimal_in
@@ -28,11 +33,6 @@ fewer_digits (suc (suc k)) x below h =
     let small : x < 10 * 10 ^ suc k = rw (pow-succ' 10 (suc k)) at below in
     rw less (omega arith, omega arith)
 
-pub two_digits : (k x : ℕ) → x < 10 ^ k → 10 ≤ x → x < 100 → decimal_in k x ≡ (48 + x / 10) ∷ (48 + x % 10) ∷ []
-two_digits k x below h less =
-    let fewer = fewer_digits k x below h in
-    rw (decimal_more k x (omega arith) h, decimal_last (k - 1) (x / 10) fewer.0 (omega arith))
-
 -- ---- the last digit does not depend on the room, nor do those before it
 pub same_text : SameText
 same_text zero k x some _ below _ = absurd (not-suc-le-zero some)
@@ -46,6 +46,25 @@ same_text (suc j) k x some room below within =
     let few = fewer_digits k x within more in
     let before = same_text j (k - 1) (x / 10) fewer.0 few.0 fewer.1 few.1 in
     rw (decimal_more (suc j) x some more, decimal_more k x room more, less, before))
+
+-- ---- std's text of a number of 64 bits is the same
+written : (k x : ℕ) → 0 < k → x < 10 ^ k → x < 2 ^ 64 → std_decimal x ≡ decimal_in k x
+written zero x some below few = absurd (not-suc-le-zero some)
+written (suc k) x some below few =
+    cases (ltb x 10)
+    (λ t. let one = ltb-true x 10 t in decimal_digit x one ∙ sym (decimal_last (suc k) x some one))
+    (λ f.
+    let more = ltb-false x 10 f in
+    let less : suc k - 1 ≡ k = omega arith in
+    let fewer = rw less at (fewer_digits (suc k) x below more) in
+    rw (decimal_step x more few, decimal_more (suc k) x some more, less, written k (x / 10) fewer.0 fewer.1 (omega arith)))
+
+pub same_decimal : (x : ℕ) → x < 2 ^ 64 → std_decimal x ≡ decimal x
+same_decimal x few = written 20 x (omega arith) (omega arith) few
+
+pub same_signed : (x : ℤ) → SFits w64 x → std_signed x ≡ signed_decimal x
+same_signed (pos n) fits = same_decimal n (omega (arith, fits.sfits))
+same_signed (negsuc n) fits = ap (λ (t : List ℕ). 45 ∷ t) (same_decimal (suc n) (omega (arith, fits.sfits)))
 
 no_digits : (x : ℕ) → length (decimal_in 0 x) ≡ 0
 unfolding decimal_in

@@ -1,12 +1,13 @@
-// What `hexvol` prints. The private functions write text into a buffer, from a place on, and answer the place behind it.
+// What `hexvol` prints. Each private function appends its text, or answers that it does not fit; `list` has room for all of them.
 #![tactic(auto)]
 
-ghost use Rattle.std.specs.Prelude.{◌≡◌, ◌+◌, ◌*◌, ◌<◌, ◌≤◌, length, take};
-ghost use Rattle.buffer.specs.Put.{Puts, Wrote};
-ghost use Rattle.volume_lines.specs.Lines.{cell_line, cell_lines, total_line, cell_or_none, first_line, report_text, printed};
+ghost use Rattle.std.specs.Prelude.{◌≡◌, ◌+◌, ◌≤◌, ◌++◌, length, IsOk, OnOk};
+ghost use Rattle.arrayvec.specs.ArrayVec.{array_vec_len};
+ghost use Rattle.volume_lines.specs.Lines.{cell_line, cell_lines, total_line, first_line, report_text, printed};
 
+use arrayvec::{ArrayVec, CapacityError};
 use hxm::MOST_CELLS;
-use volume_report::Reported;
+use volume_report::Summary;
 
 // The line of a cell has at most three digits for its number, which is below 128, a space, twenty characters for the volume and a newline.
 const CELL_LINE: usize = 3 + 1 + 20 + 1;
@@ -19,78 +20,77 @@ const FIRST_LINE: usize = 6 + 10 + 1;
 // So the most that is printed: 3,244 bytes.
 const MOST_BYTES: usize = CELL_LINE * (MOST_CELLS as usize) + TOTAL_LINE + FIRST_LINE;
 
-fn put_cell(out: &mut [u8], at: usize, k: usize, volume: i64) -> usize
-    requires { (k < 128) × (at + 25 ≤ length out.old) }
-    ensures { Wrote out.old out.new at result (cell_line k volume) × (result ≤ at + 25) }
+fn push_cell(out: &mut ArrayVec<u8, MOST_BYTES>, k: usize, volume: i64) -> Result<(), CapacityError>
+    ensures room { array_vec_len out.old + length (cell_line k volume) ≤ 3244 → IsOk result }
+    ensures ok { OnOk result (out.new.items ≡ out.old.items ++ cell_line k volume) }
 {
-    let number = text::put_decimal(&mut *out, at, k as u64);
-    let space = buffer::put_byte(&mut *out, number, b' ');
-    let end = text::put_signed(&mut *out, space, volume);
-    buffer::put_byte(out, end, b'\n')
+    text::push_decimal(&mut *out, k as u64)?;
+    out.try_extend_from_slice(b" ")?;
+    text::push_signed(&mut *out, volume)?;
+    out.try_extend_from_slice(b"\n")
 }
 
-// Writes a line for each cell.
-fn put_cells(out: &mut [u8], volumes: &[i64]) -> usize
-    requires { (length volumes.now ≤ 128) × (25 * length volumes.now ≤ length out.old) }
-    ensures { Wrote out.old out.new 0 result (cell_lines volumes.now) × (result ≤ 25 * length volumes.now) }
+// A line for each cell.
+fn push_cells(out: &mut ArrayVec<u8, MOST_BYTES>, volumes: &[i64]) -> Result<(), CapacityError>
+    ensures room { array_vec_len out.old + length (cell_lines volumes.now) ≤ 3244 → IsOk result }
+    ensures ok { OnOk result (out.new.items ≡ out.old.items ++ cell_lines volumes.now) }
 {
-    let mut end: usize = 0;
-    let mut k: usize = 0;
-    while k < volumes.len() {
-        let volume = volumes[k];
-        end = put_cell(&mut *out, end, k, volume);
-        k += 1;
+    for (k, volume) in volumes.iter().enumerate() {
+        push_cell(&mut *out, k, *volume)?;
     }
-    end
+    Ok(())
 }
 
-fn put_total(out: &mut [u8], at: usize, total: i64) -> usize
-    requires { at + 27 ≤ length out.old }
-    ensures { Wrote out.old out.new at result (total_line total) × (result ≤ at + 27) }
+fn push_total(out: &mut ArrayVec<u8, MOST_BYTES>, total: i64) -> Result<(), CapacityError>
+    ensures room { array_vec_len out.old + length (total_line total) ≤ 3244 → IsOk result }
+    ensures ok { OnOk result (out.new.items ≡ out.old.items ++ total_line total) }
 {
-    let word = buffer::put_bytes(&mut *out, at, b"total ");
-    let number = text::put_signed(&mut *out, word, total);
-    buffer::put_byte(out, number, b'\n')
+    out.try_extend_from_slice(b"total ")?;
+    text::push_signed(&mut *out, total)?;
+    out.try_extend_from_slice(b"\n")
 }
 
-fn put_cell_or_none(out: &mut [u8], at: usize, cells: u32, first: u32) -> usize
-    ensures { Puts out.old out.new at result (cell_or_none cells first) }
+// The first cell whose volume is not above zero, or none where it is the one behind the last.
+fn push_first(
+    out: &mut ArrayVec<u8, MOST_BYTES>,
+    cells: u32,
+    first: u32,
+) -> Result<(), CapacityError>
+    ensures room { array_vec_len out.old + length (first_line cells first) ≤ 3244 → IsOk result }
+    ensures ok { OnOk result (out.new.items ≡ out.old.items ++ first_line cells first) }
 {
+    out.try_extend_from_slice(b"first ")?;
     if first == cells {
-        return buffer::put_bytes(out, at, b"none");
+        out.try_extend_from_slice(b"none")?;
+    } else {
+        text::push_decimal(&mut *out, u64::from(first))?;
     }
-    text::put_decimal(out, at, first as u64)
+    out.try_extend_from_slice(b"\n")
 }
 
-fn put_first(out: &mut [u8], at: usize, cells: u32, first: u32) -> usize
-    requires { at + 17 ≤ length out.old }
-    ensures { Wrote out.old out.new at result (first_line cells first) }
+// The lines of a report, whose list has a volume for each of its cells.
+fn push_report(
+    out: &mut ArrayVec<u8, MOST_BYTES>,
+    volumes: &[i64],
+    found: Summary,
+) -> Result<(), CapacityError>
+    requires { length volumes.now ≡ found.cells }
+    ensures room { array_vec_len out.old + length (report_text (record { volumes = volumes.now; total = found.total; first = found.first })) ≤ 3244 → IsOk result }
+    ensures ok { OnOk result (out.new.items ≡ out.old.items ++ report_text (record { volumes = volumes.now; total = found.total; first = found.first })) }
 {
-    let word = buffer::put_bytes(&mut *out, at, b"first ");
-    let cell = put_cell_or_none(&mut *out, word, cells, first);
-    buffer::put_byte(out, cell, b'\n')
+    push_cells(&mut *out, volumes)?;
+    push_total(&mut *out, found.total)?;
+    push_first(out, found.cells, found.first)
 }
 
-fn put_report(out: &mut [u8], volumes: &[i64], total: i64, first: u32) -> usize
-    requires { (length volumes.now ≤ 128) × (3244 ≤ length out.old) }
-    ensures { Wrote out.old out.new 0 result (report_text (record { volumes = volumes.now; total = total; first = first })) }
+// Makes the text what `hexvol` prints for a file, whatever it was.
+pub fn list(bytes: &[u8], out: &mut ArrayVec<u8, MOST_BYTES>)
+    ensures { out.new.items ≡ printed bytes.now }
 {
-    let cells = put_cells(&mut *out, volumes);
-    let sum = put_total(&mut *out, cells, total);
-    put_first(out, sum, volumes.len() as u32, first)
-}
-
-// Writes what `hexvol` prints for a file, and answers its length.
-pub fn list(bytes: &[u8], out: &mut [u8; MOST_BYTES]) -> usize
-    ensures text { Wrote out.old out.new 0 result (printed bytes.now) }
-    ensures within { (result ≤ length out.new) × (result ≡ length (take result out.new)) }
-{
+    out.clear();
     let mut volumes = [0i64; MOST_CELLS as usize];
-    match volume_report::report(bytes, &mut volumes) {
-        Reported::Volumes(total, cells, first) => {
-            let count = cells as usize;
-            put_report(out, &volumes[..count], total, first)
-        }
-        Reported::Refused(k) => text::put_refused(out, 0, k),
-    }
+    let _ = match volume_report::report(bytes, &mut volumes) {
+        Ok(found) => push_report(out, &volumes[..found.cells as usize], found),
+        Err(refusal) => text::push_refused(out, refusal),
+    };
 }

@@ -1,5 +1,0 @@
--- `text::put_digits` calls itself for the digits before the last, of which there are fewer.
-use Rattle.text.proofs.+put_digits.Given as goal
-
-abbrev pub decreases-put_digits : goal.decreases-put_digits
-decreases-put_digits l = l.k
