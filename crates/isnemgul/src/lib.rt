@@ -35,12 +35,6 @@ ghost use Rattle.refine.specs.Refine.{refined, children_in};
 use cell::Point;
 use proposals::Proposal;
 
-fn wide(x: u32) -> usize
-    ensures { result ≡ x }
-{
-    x as usize
-}
-
 #[unsafe(no_mangle)]
 pub extern "C" fn isn_mat3_transpose(m: &[f64; 9], out: &mut [f64; 9]) -> u32
     ensures { (result ≡ 0) × (out.new ≡ transposed m.now) }
@@ -69,7 +63,7 @@ pub extern "C" fn isn_mat3_determinant(m: &[f64; 9], out: &mut f64) -> u32
 pub extern "C" fn isn_mat3_try_inverse(m: &[f64; 9], out: &mut [f64; 9]) -> u32
     ensures { Leaves (inverse m.now) result out.old out.new }
 {
-    cell_answers::put_inverse(mat3_inverse::try_inverse(*m), out)
+    answer::put(mat3_inverse::try_inverse(*m), out)
 }
 
 #[unsafe(no_mangle)]
@@ -144,29 +138,29 @@ pub extern "C" fn isn_hex_grad_shapefunc(
     ensures { Leaves (weighted_gradient corners.now points.now i1 i2 i3) result
         (dndx.old, detwei.old) (dndx.new, detwei.new) }
 {
-    hex_weighted_gradient::weighted_gradient(
+    answer::number_of(hex_weighted_gradient::weighted_gradient(
         corners,
         points,
-        wide(i1),
-        wide(i2),
-        wide(i3),
+        i1 as usize,
+        i2 as usize,
+        i3 as usize,
         dndx,
         detwei,
-    )
+    ))
 }
 
 #[unsafe(no_mangle)]
 pub extern "C" fn isn_hex_volume(corners: &[f64; 24], points: &[f64], out: &mut f64) -> u32
     ensures { Leaves (hex_volume_of corners.now points.now) result out.old out.new }
 {
-    cell_answers::put_measured(hex_volume::volume(*corners, points), out)
+    answer::put(hex_volume::volume(*corners, points), out)
 }
 
 #[unsafe(no_mangle)]
 pub extern "C" fn isn_hex_parametric_coord_for_origin(corners: &[f64; 24], at: &mut [f64; 3]) -> u32
     ensures { Leaves (hex_located corners.now) result at.old at.new }
 {
-    cell_answers::put_located(hex_locate::newton(corners), at)
+    answer::put(hex_locate::newton(corners).place(), at)
 }
 
 #[unsafe(no_mangle)]
@@ -181,10 +175,15 @@ pub extern "C" fn isn_hex_iso_position_on_edge(
 ) -> u32
     ensures { Leaves (iso_position center.now half_width i0 i1 val0 val1) result out.old out.new }
 {
-    iso_answers::put_position(
-        hex_iso_position::iso_position_on_edge(*center, half_width, wide(i0), wide(i1), val0, val1),
-        out,
-    )
+    let found = hex_iso_position::iso_position_on_edge(
+        *center,
+        half_width,
+        i0 as usize,
+        i1 as usize,
+        val0,
+        val1,
+    );
+    answer::put(found, out)
 }
 
 #[unsafe(no_mangle)]
@@ -206,7 +205,7 @@ pub extern "C" fn isn_hex_iso_edges(
 pub extern "C" fn isn_hex_iso_mask(index: u32, mask: &mut u32) -> u32
     ensures { Leaves (iso_mask index) result mask.old mask.new }
 {
-    iso_answers::put_mask(hex_iso_mask::iso_mask(index), mask)
+    answer::put(hex_iso_mask::iso_mask(index), mask)
 }
 
 #[unsafe(no_mangle)]
@@ -234,7 +233,7 @@ pub extern "C" fn isn_hex_check(corners: &[f64; 24], at: &[f64; 3], tolerance: f
         y: at[1],
         z: at[2],
     };
-    probe_answers::put_verdict(probe::judge(corners, place, tolerance))
+    answer::number_of(probe::judge(corners, place, tolerance))
 }
 
 #[unsafe(no_mangle)]
@@ -248,7 +247,7 @@ pub extern "C" fn isn_hex_locate_checked(
     ensures complete { (q : List Float) → hex_located corners.now ≡ answered q
         → NearIsAccepted ((result ≡ 0) × (at.new ≡ q)) corners.now q tolerance }
 {
-    probe_answers::put_checked(probe::locate_checked(*corners, tolerance), at)
+    answer::put(probe::locate_checked(*corners, tolerance), at)
 }
 
 #[unsafe(no_mangle)]
@@ -264,7 +263,7 @@ pub extern "C" fn isn_hex_check_proposals(
     ensures sound { result ≡ 0 → Each ZeroIsNear corners.now list.now out.new }
     ensures complete { result ≡ 0 → Each NearIsZero corners.now list.now out.new }
 {
-    probe_answers::put_judged(proposals::check_proposals(*corners, list, out), accepted)
+    answer::put(proposals::check_proposals(*corners, list, out), accepted)
 }
 
 #[unsafe(no_mangle)]
@@ -300,7 +299,7 @@ pub extern "C" fn isn_prism_volume(
 ) -> u32
     ensures { Leaves (prism_volume_of corners.now line.now triangle.now) result out.old out.new }
 {
-    cell_answers::put_measured(prism_volume::volume(*corners, line, triangle), out)
+    answer::put(prism_volume::volume(*corners, line, triangle), out)
 }
 
 #[unsafe(no_mangle)]
@@ -310,7 +309,7 @@ pub extern "C" fn isn_prism_parametric_coord_for_origin(
 ) -> u32
     ensures { Leaves (prism_located corners.now) result at.old at.new }
 {
-    cell_answers::put_located(prism_locate::parametric_coord_for_origin(*corners), at)
+    answer::put(prism_locate::newton(corners).place(), at)
 }
 
 #[unsafe(no_mangle)]
@@ -332,14 +331,14 @@ pub extern "C" fn isn_refine(n: u32, cells: &[u32], out: &mut [u32], next: &mut 
     ensures output { out.new ≡ left (children_in (refined n cells.now (length out.old)) n cells.now)
         out.old }
 {
-    mesh_answers::put_refined(refine::refine(n, cells, out), next)
+    answer::put(refine::refine(n, cells, out), next)
 }
 
 #[unsafe(no_mangle)]
 pub extern "C" fn isn_descendant(path: &[u32], corner: u32, out: &mut [i32; 3]) -> u32
     ensures { Leaves (descended path.now corner) result out.old out.new }
 {
-    mesh_answers::put_descended(descendant::descendant(path, corner), out)
+    answer::put(descendant::descendant(path, corner), out)
 }
 
 #[unsafe(no_mangle)]
@@ -356,7 +355,7 @@ pub extern "C" fn isn_hxm_read(
     ensures corners { cells.new ≡ left (corners_of (mesh_into (length nodes.old) (length cells.old) bytes.now))
         cells.old }
 {
-    mesh_answers::put_reading(hxm::read(bytes, nodes, cells), counts)
+    answer::put(hxm::read(bytes, nodes, cells).map(<[u32; 2]>::from), counts)
 }
 
 #[unsafe(no_mangle)]
@@ -365,7 +364,7 @@ pub extern "C" fn isn_hxm_write(nodes: &[u64], cells: &[u32], out: &mut [u8], si
         size.old size.new }
     ensures output { out.new ≡ left (file_into (length out.old) nodes.now cells.now) out.old }
 {
-    mesh_answers::put_writing(hxm_write::write(nodes, cells, out), size)
+    answer::put(hxm_write::write(nodes, cells, out), size)
 }
 
 #[unsafe(no_mangle)]
@@ -381,5 +380,12 @@ pub extern "C" fn isn_volume_report(
         counts.old counts.new }
     ensures output { volumes.new ≡ left (volumes_in (report_into (length volumes.old) bytes.now)) volumes.old }
 {
-    mesh_answers::put_reported(volume_report::report(bytes, volumes), total, counts)
+    match volume_report::report(bytes, volumes) {
+        Ok(summary) => {
+            *total = summary.total;
+            *counts = [summary.cells, summary.first];
+            0
+        }
+        Err(refusal) => refusal.number(),
+    }
 }
