@@ -1,278 +1,126 @@
 // Whether the function that a record names answers its input words as was stored.
 ghost use Rattle.std.specs.Prelude.{◌+◌, ◌<◌, ◌≤◌, length};
 
-use crate::{Record, agree};
-use cell::{Located, Measured, Point};
-use hex_iso_mask::IsoMask;
-use hex_iso_position::IsoPosition;
-use hex_weighted_gradient::WeightedGradient;
-use mat3_inverse::Inverse;
-use probe::{Checked, Verdict};
-
-fn matrix(stored: &Record) -> [f64; 9] {
-    let mut m = [0.0; 9];
-    crate::floats(stored, 0, &mut m);
-    m
-}
-
-fn place(stored: &Record, from: usize) -> [f64; 3]
-    requires { from + 3 ≤ 510 }
-{
-    let mut p = [0.0; 3];
-    crate::floats(stored, from, &mut p);
-    p
-}
-
-fn hexahedron(stored: &Record) -> [f64; 24] {
-    let mut p = [0.0; 24];
-    crate::floats(stored, 0, &mut p);
-    p
-}
-
-fn prism(stored: &Record) -> [f64; 18] {
-    let mut p = [0.0; 18];
-    crate::floats(stored, 0, &mut p);
-    p
-}
-
-// A list whose length stands in word i, with what stands behind it: no stored list has more than 72 numbers.
-fn list(stored: &Record, i: usize) -> [f64; 72]
-    requires { i + 73 ≤ 510 }
-{
-    let mut points = [0.0; 72];
-    crate::floats(stored, i + 1, &mut points);
-    points
-}
-
-fn length_of(stored: &Record, i: usize) -> usize
-    requires { i < 510 }
-    ensures { result ≤ 72 }
-{
-    crate::length_at(stored, i, 72)
-}
-
-fn mat3_try_inverse(stored: &Record) -> bool {
-    match mat3_inverse::try_inverse(matrix(stored)) {
-        Inverse::Of(a, b, c, d, e, f, g, h, i) => agree(&[a, b, c, d, e, f, g, h, i], stored, 0),
-        Inverse::ZeroDeterminant => crate::refused(stored, 1),
-    }
-}
-
-fn shape_values(shape: [f64; 8], stored: &Record) -> bool {
-    agree(&shape, stored, 0)
-}
-
-// Whether the gradients at the corners, and one number more, are the output from its word `at` on.
-fn gradients(dndx: [f64; 24], last: f64, stored: &Record, at: usize) -> bool
-    requires { at ≤ 8 }
-{
-    agree(&dndx, stored, at) & agree(&[last], stored, at + 24)
-}
+use crate::record::Record;
+use cell::Point;
 
 fn hex_grad_shapefunc_from_dndr(stored: &Record) -> bool {
-    let mut dndr = [0.0; 24];
-    crate::floats(stored, 24, &mut dndr);
-    let found = hex_gradient::grad_shapefunc_from_dndr(hexahedron(stored), dndr);
-    let dndx = found.dndx;
-    gradients(dndx, found.detjac, stored, 0)
+    let found = hex_gradient::grad_shapefunc_from_dndr(stored.values(0), stored.values(24));
+    stored.gives(0, &found.dndx) & stored.gives(24, &[found.detjac])
 }
 
 fn hex_dndx(stored: &Record) -> bool {
-    let found = hex_gradient::dndx(
-        hexahedron(stored),
-        crate::float_at(stored, 24),
-        crate::float_at(stored, 25),
-        crate::float_at(stored, 26),
-    );
-    let shape = found.shape;
-    let dndx = found.dndx;
-    shape_values(shape, stored) & gradients(dndx, found.detjac, stored, 8)
+    let [r, s, t]: [f64; 3] = stored.values(24);
+    let found = hex_gradient::dndx(stored.values(0), r, s, t);
+    stored.gives(0, &found.shape) & stored.gives(8, &found.dndx) & stored.gives(32, &[found.detjac])
 }
 
-fn weighted(found: WeightedGradient, stored: &Record) -> bool {
-    match found {
-        WeightedGradient::Given(a, b, c, d, e, f, g, h, detwei) => {
-            let dndx = [
-                a.x, a.y, a.z, b.x, b.y, b.z, c.x, c.y, c.z, d.x, d.y, d.z, e.x, e.y, e.z, f.x,
-                f.y, f.z, g.x, g.y, g.z, h.x, h.y, h.z,
-            ];
-            gradients(dndx, detwei, stored, 0)
-        }
-        WeightedGradient::Refused(number) => crate::refused(stored, number),
-    }
-}
-
+// No stored list has more than 72 numbers; its length stands in the word before it.
 fn hex_grad_shapefunc(stored: &Record) -> bool {
-    let points = list(stored, 24);
-    let n = length_of(stored, 24);
-    let i1 = crate::number_at(stored, 25 + n) as usize;
-    let i2 = crate::number_at(stored, 26 + n) as usize;
-    let i3 = crate::number_at(stored, 27 + n) as usize;
-    weighted(
-        hex_weighted_gradient::grad_shapefunc(hexahedron(stored), &points[0..n], i1, i2, i3),
-        stored,
-    )
-}
-
-fn measured(found: Measured, stored: &Record) -> bool {
-    match found {
-        Measured::Volume(x) => agree(&[x], stored, 0),
-        Measured::Refused(number) => crate::refused(stored, number),
+    let n = stored.length(24, 72);
+    let points: [f64; 72] = stored.values(25);
+    let [i1, i2, i3]: [u32; 3] = stored.values(25 + n);
+    match hex_weighted_gradient::grad_shapefunc(
+        stored.values(0),
+        &points[..n],
+        i1 as usize,
+        i2 as usize,
+        i3 as usize,
+    ) {
+        Ok(found) => {
+            let (dndx, detwei) = found;
+            stored.gives(0, &dndx) & stored.gives(24, &[detwei])
+        }
+        Err(refusal) => stored.refuses(refusal),
     }
 }
 
 fn hex_volume(stored: &Record) -> bool {
-    let points = list(stored, 24);
-    let n = length_of(stored, 24);
-    measured(
-        hex_volume::volume(hexahedron(stored), &points[0..n]),
-        stored,
-    )
-}
-
-fn located(found: Located, stored: &Record) -> bool {
-    match found {
-        Located::Inside(r, s, t) => agree(&[r, s, t], stored, 0),
-        Located::Flat => crate::refused(stored, 1),
-        Located::Outside => crate::refused(stored, 2),
-    }
+    let n = stored.length(24, 72);
+    let points: [f64; 72] = stored.values(25);
+    let found = hex_volume::volume(stored.values(0), &points[..n]);
+    stored.answers(found.map(|volume| [volume]))
 }
 
 fn hex_iso_position_on_edge(stored: &Record) -> bool {
-    let half_width = crate::float_at(stored, 3);
-    let i0 = crate::number_at(stored, 4) as usize;
-    let i1 = crate::number_at(stored, 5) as usize;
-    let val0 = crate::float_at(stored, 6);
-    let val1 = crate::float_at(stored, 7);
-    match hex_iso_position::iso_position_on_edge(place(stored, 0), half_width, i0, i1, val0, val1) {
-        IsoPosition::At(x, y, z) => agree(&[x, y, z], stored, 0),
-        IsoPosition::Refused(number) => crate::refused(stored, number),
-    }
-}
-
-fn iso_edges(index: u32, positions: [f64; 36], stored: &Record) -> bool {
-    crate::answered(&[index], &positions, stored, 0)
+    let [i0, i1]: [u32; 2] = stored.values(4);
+    stored.answers(hex_iso_position::iso_position_on_edge(
+        stored.values(0),
+        stored.value(3),
+        i0 as usize,
+        i1 as usize,
+        stored.value(6),
+        stored.value(7),
+    ))
 }
 
 fn hex_iso_edges(stored: &Record) -> bool {
-    let mut values = [0.0; 8];
-    crate::floats(stored, 4, &mut values);
-    let found = hex_iso::iso_edges(place(stored, 0), crate::float_at(stored, 3), values);
-    let positions = found.positions;
-    iso_edges(found.index, positions, stored)
-}
-
-fn agree_numbers(numbers: &[u32], stored: &Record) -> bool
-    requires { length numbers.now ≤ 255 }
-{
-    let none = [0.0; 1];
-    crate::answered(numbers, &none[0..0], stored, 0)
-}
-
-fn hex_iso_mask(stored: &Record) -> bool {
-    match hex_iso_mask::iso_mask(crate::number_at(stored, 0)) {
-        IsoMask::Mask(m) => agree_numbers(&[m], stored),
-        IsoMask::Refused(number) => crate::refused(stored, number),
-    }
+    let found = hex_iso::iso_edges(stored.values(0), stored.value(3), stored.values(4));
+    stored.gives(0, &[found.index]) & stored.gives(1, &found.positions)
 }
 
 fn hex_subdivide(stored: &Record) -> bool {
-    let mut corner = [0u32; 8];
-    let mut edge = [0u32; 12];
-    let mut quad = [0u32; 6];
-    crate::numbers(stored, 0, &mut corner);
-    crate::numbers(stored, 8, &mut edge);
-    crate::numbers(stored, 20, &mut quad);
-    let r = hex_children::subdivide(corner, edge, quad, crate::number_at(stored, 26));
-    agree_numbers(&r, stored)
+    let found = hex_children::subdivide(
+        stored.values(0),
+        stored.values(8),
+        stored.values(20),
+        stored.value(26),
+    );
+    stored.gives(0, &found)
 }
 
 fn prism_volume(stored: &Record) -> bool {
-    let line = list(stored, 18);
-    let n = length_of(stored, 18);
-    let triangle = list(stored, 19 + n);
-    let m = length_of(stored, 19 + n);
-    measured(
-        prism_volume::volume(prism(stored), &line[0..n], &triangle[0..m]),
-        stored,
-    )
+    let n = stored.length(18, 72);
+    let line: [f64; 72] = stored.values(19);
+    let m = stored.length(19 + n, 72);
+    let triangle: [f64; 72] = stored.values(20 + n);
+    let found = prism_volume::volume(stored.values(0), &line[..n], &triangle[..m]);
+    stored.answers(found.map(|volume| [volume]))
 }
 
 fn prism_subdivide(stored: &Record) -> bool {
-    let mut corner = [0u32; 6];
-    let mut edge = [0u32; 9];
-    let mut quad = [0u32; 3];
-    crate::numbers(stored, 0, &mut corner);
-    crate::numbers(stored, 6, &mut edge);
-    crate::numbers(stored, 15, &mut quad);
-    let r = prism_children::subdivide(corner, edge, quad);
-    agree_numbers(&r, stored)
+    let found = prism_children::subdivide(stored.values(0), stored.values(6), stored.values(15));
+    stored.gives(0, &found)
 }
 
 fn hex_check(stored: &Record) -> bool {
-    let at = Point {
-        x: crate::float_at(stored, 24),
-        y: crate::float_at(stored, 25),
-        z: crate::float_at(stored, 26),
-    };
-    match probe::check(hexahedron(stored), at, crate::float_at(stored, 27)) {
-        Verdict::Accepted => crate::refused(stored, 0),
-        Verdict::Refused(number) => crate::refused(stored, number),
+    let [x, y, z]: [f64; 3] = stored.values(24);
+    match probe::check(stored.values(0), Point { x, y, z }, stored.value(27)) {
+        Ok(()) => stored.gives::<f64>(0, &[]),
+        Err(refusal) => stored.refuses(refusal),
     }
 }
 
-fn hex_locate_checked(stored: &Record) -> bool {
-    match probe::locate_checked(hexahedron(stored), crate::float_at(stored, 24)) {
-        Checked::Inside(r, s, t) => agree(&[r, s, t], stored, 0),
-        Checked::Refused(number) => crate::refused(stored, number),
-    }
-}
-
-// Whether a record is answered as it was.
+// Whether a record is answered as it was. A record names its function by a number.
 pub fn agrees(stored: &Record) -> bool {
-    match stored[0] {
-        1 => agree(&mat3_col_major::transpose(matrix(stored)), stored, 0),
-        2 => agree(
-            &mat3_col_major::mult_vec(matrix(stored), place(stored, 9)),
-            stored,
+    match stored.function() {
+        1 => stored.gives(0, &mat3_col_major::transpose(stored.values(0))),
+        2 => stored.gives(
             0,
+            &mat3_col_major::mult_vec(stored.values(0), stored.values(9)),
         ),
-        3 => agree(&[mat3_col_major::determinant(matrix(stored))], stored, 0),
-        4 => mat3_try_inverse(stored),
-        5 => agree(&hex_shape::shapefunc(place(stored, 0)), stored, 0),
-        6 => agree(&hex_shape::dndr(place(stored, 0)), stored, 0),
-        7 => agree(
-            &hex_image::dxdr(hexahedron(stored), place(stored, 24)),
-            stored,
-            0,
-        ),
+        3 => stored.gives(0, &[mat3_col_major::determinant(stored.values(0))]),
+        4 => stored.answers(mat3_inverse::try_inverse(stored.values(0))),
+        5 => stored.gives(0, &hex_shape::shapefunc(stored.values(0))),
+        6 => stored.gives(0, &hex_shape::dndr(stored.values(0))),
+        7 => stored.gives(0, &hex_image::dxdr(stored.values(0), stored.values(24))),
         8 => hex_grad_shapefunc_from_dndr(stored),
         9 => hex_dndx(stored),
         10 => hex_grad_shapefunc(stored),
         11 => hex_volume(stored),
-        12 => located(
-            hex_locate::parametric_coord_for_origin(hexahedron(stored)),
-            stored,
-        ),
+        12 => stored.answers(hex_locate::parametric_coord_for_origin(stored.values(0)).place()),
         13 => hex_iso_position_on_edge(stored),
         14 => hex_iso_edges(stored),
-        15 => hex_iso_mask(stored),
+        15 => stored.answers(hex_iso_mask::iso_mask(stored.value(0)).map(|mask| [mask])),
         16 => hex_subdivide(stored),
-        17 => agree(&prism_shape::shapefunc(place(stored, 0)), stored, 0),
-        18 => agree(&prism_shape::dndr(place(stored, 0)), stored, 0),
-        19 => agree(
-            &prism_image::dxdr(prism(stored), place(stored, 18)),
-            stored,
-            0,
-        ),
+        17 => stored.gives(0, &prism_shape::shapefunc(stored.values(0))),
+        18 => stored.gives(0, &prism_shape::dndr(stored.values(0))),
+        19 => stored.gives(0, &prism_image::dxdr(stored.values(0), stored.values(18))),
         20 => prism_volume(stored),
-        21 => located(
-            prism_locate::parametric_coord_for_origin(prism(stored)),
-            stored,
-        ),
+        21 => stored.answers(prism_locate::parametric_coord_for_origin(stored.values(0)).place()),
         22 => prism_subdivide(stored),
         23 => hex_check(stored),
-        24 => hex_locate_checked(stored),
+        24 => stored.answers(probe::locate_checked(stored.values(0), stored.value(24))),
         _ => false,
     }
 }
