@@ -91,6 +91,6 @@ pub fn list(bytes: &[u8], out: &mut ArrayVec<u8, MOST_BYTES>)
 {
     out.clear();
     if let Err(refusal) = push_kids(&mut *out, bytes) {
-        let _ = text::push_refused(out, refusal);
+        let _ = text::push_refused(out, refusal.number());
     }
 }

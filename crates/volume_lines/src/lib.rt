@@ -91,6 +91,6 @@ pub fn list(bytes: &[u8], out: &mut ArrayVec<u8, MOST_BYTES>)
     let mut volumes = [0i64; MOST_CELLS as usize];
     let _ = match volume_report::report(bytes, &mut volumes) {
         Ok(found) => push_report(out, &volumes[..found.cells as usize], found),
-        Err(refusal) => text::push_refused(out, refusal),
+        Err(refusal) => text::push_refused(out, refusal.number()),
     };
 }

@@ -11,7 +11,7 @@ use Rattle.kids.proofs.list.Goals as goal
 pub returns-in-Err : goal.returns-in-Err
 returns-in-Err c =
     let none = ap (λ (v : ArrayVec ℕ). v.items) c.in-Err.ensures.unchanged ∙ c.clear.ensures in
-    let put = rw none at c.push_refused.ensures in
+    let put = rw (none, c.number.ensures) at c.push_refused.ensures in
     surely c.push_refused.result (put.variant.1 (omega (arith, refused_most (number c.in-Err.refusal)))) put.ok
     ∙ shown_refusal c.args.bytes.now _ c.in-Err.ensures.err
 

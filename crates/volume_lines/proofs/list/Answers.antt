@@ -15,5 +15,5 @@ returns-in-Ok c =
 
 pub returns-in-Err : goal.returns-in-Err
 returns-in-Err c =
-    let put = rw c.clear.ensures at c.push_refused.ensures in
+    let put = rw (c.clear.ensures, c.number.ensures) at c.push_refused.ensures in
     surely c.push_refused.result (put.variant.1 (omega (arith, refused_most (number c.in-Err.refusal)))) put.ok ∙ refusal c.args.bytes.now _ c.in-Err.ensures.answer
