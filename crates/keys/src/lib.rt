@@ -2,7 +2,7 @@
 // are told apart by the node opposite the smallest.
 #![tactic(auto)]
 
-ghost use Rattle.std.specs.Prelude.{◌≡◌, [], ◌∷◌, ◌*◌, ◌<◌, min, map};
+ghost use Rattle.std.specs.Prelude.{◌≡◌, [], ◌∷◌, ◌*◌, ◌<◌, min, map, replicate};
 ghost use Rattle.faults.specs.Faults.{names};
 ghost use Rattle.numbering.specs.Refinement.{cell_count, edge_corners, face_corners};
 ghost use Rattle.keys.specs.Keys.{packed, key, opposite, edge_key, face_key, face_ring, keys_in};
@@ -80,9 +80,31 @@ fn opposite(ring: [u32; 4]) -> u32
     }
 }
 
-// Puts the keys of the edges, twelve a cell, into a lent list: one of this size that is returned is copied on its way. Of a longer list of cells the first
-// 128 count. By index: of a list that an iterator writes a proof knows the length alone.
-pub fn edge_keys(cells: &[u32], keys: &mut [u64; MOST_EDGES])
+// The keys of the edges, twelve a cell. Of a longer list of cells the first 128 count.
+pub fn edge_keys(cells: &[u32]) -> [u64; MOST_EDGES]
+    ensures { result ≡ keys_in (replicate 1536 0) (12 * min (cell_count cells.now) 128) (edge_key cells.now) }
+{
+    let mut keys = [0; MOST_EDGES];
+    edge_keys_into(cells, &mut keys);
+    keys
+}
+
+// The keys of the faces, six a cell, and the nodes opposite the smallest ones.
+pub fn face_keys(cells: &[u32]) -> FaceKeys
+    ensures keys { result.keys ≡ keys_in (replicate 768 0) (6 * min (cell_count cells.now) 128) (face_key cells.now) }
+    ensures rings { result.rings ≡ keys_in (replicate 768 0) (6 * min (cell_count cells.now) 128) (face_ring cells.now) }
+{
+    let mut faces = FaceKeys {
+        keys: [0; MOST_FACES],
+        rings: [0; MOST_FACES],
+    };
+    face_keys_into(cells, &mut faces);
+    faces
+}
+
+// Puts the keys of the edges into a lent list: one of this size that is returned is copied on its way. By index: of a list that an iterator writes a proof
+// knows the length alone.
+pub fn edge_keys_into(cells: &[u32], keys: &mut [u64; MOST_EDGES])
     ensures { keys.new ≡ keys_in keys.old (12 * min (cell_count cells.now) 128) (edge_key cells.now) }
 {
     let (whole, _) = cells.as_chunks::<8>();
@@ -91,9 +113,8 @@ pub fn edge_keys(cells: &[u32], keys: &mut [u64; MOST_EDGES])
     }
 }
 
-// Puts the keys of the faces, six a cell, and the nodes opposite the smallest ones, as `edge_keys` does: a face has a ring
-// beside its key, and an edge has none, so that each has a loop of its own.
-pub fn face_keys(cells: &[u32], faces: &mut FaceKeys)
+// Puts the keys and rings of the faces as `edge_keys_into` does: a face has a ring beside its key, and an edge has none, so that each has a loop of its own.
+pub fn face_keys_into(cells: &[u32], faces: &mut FaceKeys)
     ensures keys { faces.new.keys ≡ keys_in faces.old.keys (6 * min (cell_count cells.now) 128) (face_key cells.now) }
     ensures rings { faces.new.rings ≡ keys_in faces.old.rings (6 * min (cell_count cells.now) 128) (face_ring cells.now) }
 {

@@ -115,7 +115,7 @@ impl<'a> Mesh<'a> {
         ensures few { result ≤ self.now.n + 19 * cell_count self.now.cells.now }
     {
         let mut edge_keys = [0; MOST_EDGES];
-        keys::edge_keys(self.cells, &mut edge_keys);
+        keys::edge_keys_into(self.cells, &mut edge_keys);
         let mut free = self.n;
         for cell in 0..self.cells.len() / 8 {
             free = number(&edge_keys, &mut numbers.edges, 12, cell, free);
@@ -155,7 +155,7 @@ impl<'a> Mesh<'a> {
             keys: [0; MOST_FACES],
             rings: [0; MOST_FACES],
         };
-        keys::face_keys(self.cells, &mut face_keys);
+        keys::face_keys_into(self.cells, &mut face_keys);
         let free = self.number_cells(&face_keys.keys, &mut numbers);
         if self.twisted(&numbers.faces, &face_keys.rings) {
             return Err(Refusal::Twisted);

@@ -22,13 +22,15 @@ pub number_cells-free-requires : goal.number_cells-free-requires
 number_cells-free-requires c =
     let mesh = c.args.self.now in
     let cells = mesh.cells.now in
-    keys_agree c.face_keys.new.faces.keys (replicate 768 0) _ (6 * cell_count cells) (face_key cells) (few_cells cells mesh.few_cells) c.face_keys.ensures.keys
+    keys_agree c.face_keys_into.new.faces.keys (replicate 768 0) _ (6 * cell_count cells) (face_key cells) (few_cells cells mesh.few_cells)
+    c.face_keys_into.ensures.keys
 
 pub twisted-requires-clause-rings : goal.twisted-requires-clause-rings
 twisted-requires-clause-rings c =
     let mesh = c.args.self.now in
     let cells = mesh.cells.now in
-    keys_agree c.face_keys.new.faces.rings (replicate 768 0) _ (6 * cell_count cells) (face_ring cells) (few_cells cells mesh.few_cells) c.face_keys.ensures.rings
+    keys_agree c.face_keys_into.new.faces.rings (replicate 768 0) _ (6 * cell_count cells) (face_ring cells) (few_cells cells mesh.few_cells)
+    c.face_keys_into.ensures.rings
 
 pub returns : goal.returns
 returns c =

@@ -1,4 +1,4 @@
--- `keys::edge_keys` meets its contract: the keys stored are those of the edges passed. Assumes nothing.
+-- `keys::edge_keys_into` meets its contract: the keys stored are those of the edges passed. Assumes nothing.
 use Prim.Native.Nat.{◌*◌, ◌/◌, ◌%◌, min}
 use native.Mathlib.Omega.{arith}
 use mathlib.Core.Path.{◌≡◌, ap, ◌∙◌}
@@ -6,7 +6,7 @@ use Rattle.numbers.proofs.Stored.{stores_more, stores_all}
 use Rattle.numbering.specs.Refinement.{cell_count}
 use Rattle.keys.specs.Keys.{key}
 use Rattle.keys.proofs.Keys.{edge_is}
-use Rattle.keys.proofs.edge_keys.Goals as goal
+use Rattle.keys.proofs.edge_keys_into.Goals as goal
 
 pub loop-j-preserved : goal.loop-j-preserved
 loop-j-preserved c =

@@ -1,4 +1,4 @@
--- `keys::face_keys` meets its contract: what is stored are the keys of the faces passed, and the nodes opposite the smallest ones. Assumes nothing.
+-- `keys::face_keys_into` meets its contract: what is stored are the keys of the faces passed, and the nodes opposite the smallest ones. Assumes nothing.
 use Prim.Native.Nat.{◌*◌, ◌/◌, ◌%◌, min}
 use native.Mathlib.Omega.{arith}
 use mathlib.Core.Path.{◌≡◌, ap, ◌∙◌}
@@ -6,7 +6,7 @@ use Rattle.numbers.proofs.Stored.{stores_more, stores_all}
 use Rattle.numbering.specs.Refinement.{cell_count}
 use Rattle.keys.specs.Keys.{key, opposite}
 use Rattle.keys.proofs.Keys.{face_is}
-use Rattle.keys.proofs.face_keys.Goals as goal
+use Rattle.keys.proofs.face_keys_into.Goals as goal
 
 pub loop-j-preserved : goal.loop-j-preserved
 loop-j-preserved c =
