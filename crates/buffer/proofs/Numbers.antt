@@ -1,15 +1,13 @@
 -- A number's bytes as the library gives and takes them, and as they stand in a list. Assumes nothing.
-use Prim.Native.Nat.{ℕ, zero, suc, ◌+◌, ◌*◌, ◌/◌, ◌%◌, ◌^◌, ◌≤◌}
+use Prim.Native.Nat.{ℕ, zero, suc, ◌+◌, ◌/◌, ◌%◌, ◌^◌, ◌≤◌}
 use native.Mathlib.Nat.{pow-suc, div-div-eq-div-mul, div-one}
 use native.Mathlib.Omega.{arith}
 use mathlib.Core.Path.{◌≡◌, refl, sym, ◌∙◌, ap}
-use mathlib.Core.List.{List, [], ◌∷◌, ◌++◌, map, append-nil}
+use mathlib.Core.List.{List, [], ◌∷◌}
 use lib.ListN.{length, get_or, take, drop}
 use lib.Seq.{drop-cons}
 use Rattle.std.specs.Int.{w16, w32, w64, byte_at, bytes_low_first, from_le_bytes}
-use Rattle.numbers.specs.Little.{little, number_at, numbers_at, bytes}
-use Rattle.std.proofs.lemmas.List.{drop_all, length-map}
-use Rattle.numbers.proofs.Stored.{Stores, stores_all}
+use Rattle.numbers.specs.Little.{little, number_at, bytes}
 
 byte_is : (i x : ℕ) → byte_at i x ≡ x / 256 ^ i % 256
 byte_is zero x = omega arith
@@ -25,44 +23,37 @@ bytes_from i (suc k) x =
 pub bytes_given : (k x : ℕ) → bytes_low_first 0 k x ≡ bytes k x
 bytes_given k x = bytes_from 0 k x ∙ ap (bytes k) (div-one x)
 
+-- the first bytes of a number's
+pub first_bytes : (w k x : ℕ) → w ≤ k → take w (bytes k x) ≡ bytes w x
+unfolding bytes
+first_bytes zero k x few = refl
+first_bytes (suc w) zero x few = absurd (omega arith)
+first_bytes (suc w) (suc k) x few = ap (λ (l : List ℕ). x % 256 ∷ l) (first_bytes w k (x / 256) (omega arith))
+
 -- the numbers of a list from a place on
-row : List ℕ → ℕ → ℕ → ℕ → List ℕ
-row s at i zero = []
-row s at i (suc w) = get_or s (at + i) 0 ∷ row s at (suc i) w
+row : List ℕ → ℕ → ℕ → List ℕ
+row s i zero = []
+row s i (suc w) = get_or s i 0 ∷ row s (suc i) w
 
-part_is : (s : List ℕ) (at i w : ℕ) → at + i + w ≤ length s → take w (drop (at + i) s) ≡ row s at i w
+part_is : (s : List ℕ) (i w : ℕ) → i + w ≤ length s → take w (drop i s) ≡ row s i w
 unfolding row
-part_is s at i zero fits = refl
-part_is s at i (suc w) fits =
-    let next : suc (at + i) ≡ at + suc i = omega arith in
-    rw (drop-cons s (at + i) 0 (omega arith), next, part_is s at (suc i) w (omega arith))
+part_is s i zero fits = refl
+part_is s i (suc w) fits = rw (drop-cons s i 0 (omega arith), part_is s (suc i) w (omega arith))
 
-number_is : (s : List ℕ) (at w : ℕ) → at + w ≤ length s → number_at s w at ≡ little (row s at 0 w)
+number_is : (s : List ℕ) (w : ℕ) → w ≤ length s → number_at s w 0 ≡ little (row s 0 w)
 unfolding number_at
-number_is s at w fits = let start : at + 0 ≡ at = omega arith in ap little (rw start at (part_is s at 0 w (omega arith)))
+number_is s w fits = ap little (part_is s 0 w (omega arith))
 
--- as the library takes them
-module _ (s : List ℕ) (at : ℕ) where
-  pub number_two : at + 2 ≤ length s → from_le_bytes w16 (get_or s at 0 ∷ get_or s (at + 1) 0 ∷ []) ≡ number_at s 2 at
+-- as the library takes the first of a list
+module _ (s : List ℕ) where
+  pub number_two : 2 ≤ length s → from_le_bytes w16 (get_or s 0 0 ∷ get_or s 1 0 ∷ []) ≡ number_at s 2 0
   unfolding little row
-  number_two fits = let start : at + 0 ≡ at = omega arith in rw (number_is s at 2 fits, start) (omega arith)
+  number_two fits = rw (number_is s 2 fits) (omega arith)
 
-  pub number_four : at + 4 ≤ length s
-      → from_le_bytes w32 (get_or s at 0 ∷ get_or s (at + 1) 0 ∷ get_or s (at + 2) 0 ∷ get_or s (at + 3) 0 ∷ []) ≡ number_at s 4 at
+  pub number_four : 4 ≤ length s → from_le_bytes w32 (get_or s 0 0 ∷ get_or s 1 0 ∷ get_or s 2 0 ∷ get_or s 3 0 ∷ []) ≡ number_at s 4 0
   unfolding little row
-  number_four fits = let start : at + 0 ≡ at = omega arith in rw (number_is s at 4 fits, start) (omega arith)
+  number_four fits = rw (number_is s 4 fits) (omega arith)
 
-  pub number_eight : at + 8 ≤ length s
-      → from_le_bytes w64 (get_or s at 0 ∷ get_or s (at + 1) 0 ∷ get_or s (at + 2) 0 ∷ get_or s (at + 3) 0
-      ∷ get_or s (at + 4) 0 ∷ get_or s (at + 5) 0 ∷ get_or s (at + 6) 0 ∷ get_or s (at + 7) 0 ∷ [])
-      ≡ number_at s 8 at
+  pub number_eight : 8 ≤ length s → from_le_bytes w64 s ≡ number_at s 8 0
   unfolding little row
-  number_eight fits = let start : at + 0 ≡ at = omega arith in rw (number_is s at 8 fits, start) (omega arith)
-
--- what a loop leaves that reads a whole list of them
-pub all_loaded : {X : Type 0} (value : X → ℕ) (old out : List X) (s : List ℕ) (w at : ℕ) {i : ℕ}
-    → Stores (λ (k : ℕ). number_at s w (at + w * k)) (length old) (map value old) (map value out) i → length old ≤ i
-    → map value out ≡ numbers_at s w at (length old)
-all_loaded value old out s w at held last =
-    let none : drop (length old) (map value old) ≡ [] = drop_all (length old) (map value old) (rw length-map (omega arith)) in
-    stores_all held last ∙ ap (λ (l : List ℕ). numbers_at s w at (length old) ++ l) none ∙ append-nil (numbers_at s w at (length old))
+  number_eight fits = rw (number_is s 8 fits) (omega arith)

@@ -1,14 +1,13 @@
-// Whole numbers in lent bytes, the lowest byte first: read, and put into a buffer from a place on. What puts answers the place behind what it put. Where
-// the buffer has no room for the whole of it, nothing is written, and the place is answered as it was. The buffer and the place are no struct: C lends the one,
-// and the other is the answer.
+// Bytes put into a lent buffer, from a place on. Each function answers the place behind what it put. Where the buffer has no room for the whole of it, nothing is
+// written, and the place is answered as it was. The buffer and the place are no struct: C lends the one, and the other is the answer.
 #![tactic(auto)]
 
 ghost use Rattle.std.specs.Prelude.{ℕ, ◌≡◌, [], ◌∷◌, ◌+◌, ◌*◌, ◌≤◌, ◌<◌, leb, length, map};
 ghost use Rattle.std.proofs.Common.{rules};
-ghost use Rattle.numbers.specs.Little.{number_at, numbers_at, bytes, all_bytes};
+ghost use Rattle.numbers.specs.Little.{number_at, bytes, all_bytes};
 ghost use Rattle.buffer.specs.Put.{Puts, Wrote};
 
-// A whole number that stands in so many bytes, the lowest first. What is said of its value leaves one possible number.
+// A whole number that stands in so many bytes, at most eight, the lowest first. What is said of its value leaves one possible number.
 pub trait Little: Copy {
     const WIDTH: usize;
 
@@ -16,15 +15,17 @@ pub trait Little: Copy {
 
     ghost value: { Self → ℕ };
 
-    fn store(self, out: &mut [u8], at: usize)
-        requires { at + WIDTH ≤ length out.old }
-        ensures { Wrote out.old out.new at (at + WIDTH) (bytes WIDTH (value self)) };
+    // In eight bytes: the number's own, and behind them zeros.
+    fn to_bytes(self) -> [u8; 8]
+        ensures { result ≡ bytes 8 (value self) };
 
-    fn load(bytes: &[u8], at: usize) -> Self
-        requires { at + WIDTH ≤ length bytes.now }
-        ensures { value result ≡ number_at bytes.now WIDTH at };
+    // The number in the first bytes of eight, whatever stands behind them.
+    fn of_bytes(bytes: [u8; 8]) -> Self
+        ensures { value result ≡ number_at bytes WIDTH 0 };
 
     ghost some_bytes: { 0 < WIDTH };
+
+    ghost most_bytes: { WIDTH ≤ 8 };
 
     ghost one_of_each: { (x y : Self) → value x ≡ value y → x ≡ y };
 }
@@ -38,14 +39,16 @@ impl Little for u16 {
 
     ghost some_bytes = { Prim.search rules };
 
+    ghost most_bytes = { Prim.search rules };
+
     ghost one_of_each = { λ x y same. same };
 
-    fn store(self, out: &mut [u8], at: usize) {
-        out[at..at + 2].copy_from_slice(&self.to_le_bytes());
+    fn to_bytes(self) -> [u8; 8] {
+        (self as u64).to_le_bytes()
     }
 
-    fn load(bytes: &[u8], at: usize) -> u16 {
-        u16::from_le_bytes([bytes[at], bytes[at + 1]])
+    fn of_bytes(bytes: [u8; 8]) -> u16 {
+        u16::from_le_bytes([bytes[0], bytes[1]])
     }
 }
 
@@ -58,14 +61,16 @@ impl Little for u32 {
 
     ghost some_bytes = { Prim.search rules };
 
+    ghost most_bytes = { Prim.search rules };
+
     ghost one_of_each = { λ x y same. same };
 
-    fn store(self, out: &mut [u8], at: usize) {
-        out[at..at + 4].copy_from_slice(&self.to_le_bytes());
+    fn to_bytes(self) -> [u8; 8] {
+        (self as u64).to_le_bytes()
     }
 
-    fn load(bytes: &[u8], at: usize) -> u32 {
-        u32::from_le_bytes([bytes[at], bytes[at + 1], bytes[at + 2], bytes[at + 3]])
+    fn of_bytes(bytes: [u8; 8]) -> u32 {
+        u32::from_le_bytes([bytes[0], bytes[1], bytes[2], bytes[3]])
     }
 }
 
@@ -78,23 +83,16 @@ impl Little for u64 {
 
     ghost some_bytes = { Prim.search rules };
 
+    ghost most_bytes = { Prim.search rules };
+
     ghost one_of_each = { λ x y same. same };
 
-    fn store(self, out: &mut [u8], at: usize) {
-        out[at..at + 8].copy_from_slice(&self.to_le_bytes());
+    fn to_bytes(self) -> [u8; 8] {
+        self.to_le_bytes()
     }
 
-    fn load(bytes: &[u8], at: usize) -> u64 {
-        u64::from_le_bytes([
-            bytes[at],
-            bytes[at + 1],
-            bytes[at + 2],
-            bytes[at + 3],
-            bytes[at + 4],
-            bytes[at + 5],
-            bytes[at + 6],
-            bytes[at + 7],
-        ])
+    fn of_bytes(bytes: [u8; 8]) -> u64 {
+        u64::from_le_bytes(bytes)
     }
 }
 
@@ -110,6 +108,14 @@ fn fits(room: usize, at: usize, width: usize, count: usize) -> bool
     count <= (room - at) / width
 }
 
+fn store<T: Little>(out: &mut [u8], at: usize, x: T)
+    requires { at + T.WIDTH ≤ length out.old }
+    ensures { Wrote out.old out.new at (at + T.WIDTH) (bytes T.WIDTH (T.value x)) }
+{
+    let low = x.to_bytes();
+    out[at..at + T::WIDTH].copy_from_slice(&low[..T::WIDTH]);
+}
+
 // The numbers of a list, one behind another.
 fn store_all<T: Little>(out: &mut [u8], at: usize, list: &[T])
     requires { at + T.WIDTH * length list.now ≤ length out.old }
@@ -117,7 +123,7 @@ fn store_all<T: Little>(out: &mut [u8], at: usize, list: &[T])
         (all_bytes T.WIDTH (map T.value list.now)) }
 {
     for i in 0..list.len() {
-        list[i].store(&mut *out, at + T::WIDTH * i);
+        store(&mut *out, at + T::WIDTH * i, list[i]);
     }
 }
 
@@ -129,7 +135,7 @@ pub fn put<T: Little>(out: &mut [u8], at: usize, x: T) -> usize
         return at;
     }
     let end = at + width;
-    x.store(&mut *out, at);
+    store(&mut *out, at, x);
     end
 }
 
@@ -166,15 +172,4 @@ pub fn put_bytes(out: &mut [u8], at: usize, text: &[u8]) -> usize
     let end = at + text.len();
     out[at..end].copy_from_slice(text);
     end
-}
-
-// The numbers that stand one behind another from a place on, as many as `out` is long.
-pub fn load_all<T: Little>(bytes: &[u8], at: usize, out: &mut [T])
-    requires { at + T.WIDTH * length out.old ≤ length bytes.now }
-    ensures { map T.value out.new ≡ numbers_at bytes.now T.WIDTH at (length out.old) }
-{
-    // By index: of a list that an iterator writes a proof knows the length alone.
-    for i in 0..out.len() {
-        out[i] = T::load(bytes, at + T::WIDTH * i);
-    }
 }

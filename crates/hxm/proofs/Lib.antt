@@ -1,3 +1,4 @@
 pub mod Format
 pub mod Ladder
+pub mod Loaded
 pub mod Long

@@ -1,8 +1,8 @@
 // The mesh file HXM, version 1.
 #![tactic(auto)]
 
-ghost use Rattle.std.specs.Prelude.{◌≡◌, [], ◌∷◌, ◌+◌, ◌*◌, ◌≤◌, length};
-ghost use Rattle.numbers.specs.Little.{numbers_at};
+ghost use Rattle.std.specs.Prelude.{◌≡◌, [], ◌∷◌, ◌+◌, ◌*◌, ◌≤◌, length, map};
+ghost use Rattle.numbers.specs.Little.{number_at, numbers_at};
 ghost use Rattle.answer.specs.Answer.{number_of};
 ghost use Rattle.answer.specs.Told.{told};
 ghost use Rattle.faults.specs.Faults.{first_fault};
@@ -51,13 +51,34 @@ impl From<Counts> for [u32; 2] {
     }
 }
 
+// The number that stands at `at`.
+fn load<T: Little>(bytes: &[u8], at: usize) -> T
+    requires { at + T.WIDTH ≤ length bytes.now }
+    ensures { T.value result ≡ number_at bytes.now T.WIDTH at }
+{
+    let mut low = [0u8; 8];
+    low[..T::WIDTH].copy_from_slice(&bytes[at..at + T::WIDTH]);
+    T::of_bytes(low)
+}
+
+// The numbers that stand one behind another from `at` on, as many as `out` is long.
+fn load_all<T: Little>(bytes: &[u8], at: usize, out: &mut [T])
+    requires { at + T.WIDTH * length out.old ≤ length bytes.now }
+    ensures { map T.value out.new ≡ numbers_at bytes.now T.WIDTH at (length out.old) }
+{
+    // By index: of a list that an iterator writes a proof knows the length alone.
+    for i in 0..out.len() {
+        out[i] = load(bytes, at + T::WIDTH * i);
+    }
+}
+
 // The eight numbers of the cell that begins at `at`.
 fn cell_at(bytes: &[u8], at: usize) -> [u32; 8]
     requires { at + cell_bytes ≤ length bytes.now }
     ensures { result ≡ numbers_at bytes.now 4 at cell_numbers }
 {
     let mut cell = [0u32; CELL_NUMBERS];
-    buffer::load_all(bytes, at, &mut cell);
+    load_all(bytes, at, &mut cell);
     cell
 }
 
@@ -80,9 +101,9 @@ fn judge(bytes: &[u8]) -> Result<Counts, Refusal>
     if bytes.len() < HEAD_LENGTH {
         return Err(Refusal::FileLength);
     }
-    let version = u16::load(bytes, 3);
-    let nodes = u32::load(bytes, 5);
-    let cells = u32::load(bytes, 9);
+    let version: u16 = load(bytes, 3);
+    let nodes: u32 = load(bytes, 5);
+    let cells: u32 = load(bytes, 9);
     if !bytes.starts_with(b"HXM") {
         return Err(Refusal::Mark);
     }
@@ -113,7 +134,7 @@ pub fn read(bytes: &[u8], nodes: &mut [u64], cells: &mut [u32]) -> Result<Counts
         return Err(Refusal::Length);
     }
     let cells_from = HEAD_LENGTH + NODE_BYTES * (counts.nodes as usize);
-    buffer::load_all(bytes, HEAD_LENGTH, &mut nodes[..coords]);
-    buffer::load_all(bytes, cells_from, &mut cells[..corners]);
+    load_all(bytes, HEAD_LENGTH, &mut nodes[..coords]);
+    load_all(bytes, cells_from, &mut cells[..corners]);
     Ok(counts)
 }

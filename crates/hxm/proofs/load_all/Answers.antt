@@ -1,12 +1,12 @@
--- `buffer::load_all` meets its contract: before turn i the first i numbers are read. Assumes nothing.
+-- `hxm::load_all` meets its contract: before turn i the first i numbers are read. Assumes nothing.
 use Prim.Native.Nat.{◌≤◌}
 use native.Mathlib.Omega.{arith}
 use mathlib.Core.List.{map}
 use lib.ListN.{length}
 use Rattle.std.proofs.lemmas.List.{length-map, map-set}
 use Rattle.numbers.proofs.Stored.{stores_none, stores_more}
-use Rattle.buffer.proofs.Numbers.{all_loaded}
-use Rattle.buffer.proofs.load_all.Goals as goal
+use Rattle.hxm.proofs.Loaded.{all_loaded}
+use Rattle.hxm.proofs.load_all.Goals as goal
 
 pub loop-i-init : goal.loop-i-init
 loop-i-init g c = stores_none

@@ -1,7 +1,0 @@
--- `buffer::u16::load` meets its contract: the library reads the bytes that stand there. Assumes nothing.
-use mathlib.Core.Path.{◌∙◌}
-use Rattle.buffer.proofs.Numbers.{number_two}
-use Rattle.buffer.proofs.U16Little.load.Goals as goal
-
-pub returns : goal.returns
-returns c = c.from_le_bytes.ensures ∙ number_two c.args.bytes.now c.args.at c.requires

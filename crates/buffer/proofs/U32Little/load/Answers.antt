@@ -1,7 +1,0 @@
--- `buffer::u32::load` meets its contract: the library reads the bytes that stand there. Assumes nothing.
-use mathlib.Core.Path.{◌∙◌}
-use Rattle.buffer.proofs.Numbers.{number_four}
-use Rattle.buffer.proofs.U32Little.load.Goals as goal
-
-pub returns : goal.returns
-returns c = c.from_le_bytes.ensures ∙ number_four c.args.bytes.now c.args.at c.requires
