@@ -1,5 +1,5 @@
-// Bytes put into a lent buffer, from a place on. Each function answers the place behind what it put. Where the buffer has no room for the whole of it, nothing is
-// written, and the place is answered as it was. The buffer and the place are no struct: C lends the one, and the other is the answer.
+// Bytes put into a lent buffer, from a place on. Each function answers the place behind what it put. Where the buffer has no room for the whole of it, nothing
+// is written, and the place is answered as it was. The buffer and the place are no struct: C lends the one, and the other is the answer.
 #![tactic(auto)]
 
 ghost use Rattle.std.specs.Prelude.{ℕ, ◌≡◌, [], ◌∷◌, ◌+◌, ◌*◌, ◌≤◌, ◌<◌, leb, length, map};
