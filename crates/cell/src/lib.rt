@@ -6,7 +6,7 @@ ghost use Rattle.numbers.specs.Rule.{tabulate};
 ghost use Rattle.binary64.specs.Binary64.{◌⊗◌, ◌!◌};
 ghost use Rattle.answer.specs.Told.{told as answer_told};
 ghost use Rattle.cell.specs.Image.{corner, image_on, image, jacobian_on, jacobian, row_by_row, with_row};
-ghost use Rattle.cell.specs.Newton.{step_from, newton, told};
+ghost use Rattle.cell.specs.Newton.{step_by, step_from, newton, told};
 
 use answer::Refusal;
 
@@ -20,14 +20,14 @@ pub struct Point {
 }
 
 // Three rows of three floats, one behind another.
-fn rows(x: [f64; 3], y: [f64; 3], z: [f64; 3]) -> [f64; 9]
+pub fn rows(x: [f64; 3], y: [f64; 3], z: [f64; 3]) -> [f64; 9]
     ensures { result ≡ row_by_row x y z }
 {
     [x[0], x[1], x[2], y[0], y[1], y[2], z[0], z[1], z[2]]
 }
 
 // Row i of a matrix that stands row by row, of three rows.
-fn put_row(m: &mut [f64; 9], i: usize, row: [f64; 3])
+pub fn put_row(m: &mut [f64; 9], i: usize, row: [f64; 3])
     ensures { m.new ≡ with_row m.old i row }
 {
     if i < 3 {
@@ -68,7 +68,7 @@ fn jacobian_entry(corners: u32, p: &[f64], dndr: &[f64], row: u32, col: u32) -> 
 }
 
 // A row of the Jacobian.
-fn jacobian_row(corners: u32, p: &[f64], dndr: &[f64], row: u32) -> [f64; 3]
+pub fn jacobian_row(corners: u32, p: &[f64], dndr: &[f64], row: u32) -> [f64; 3]
     ensures { result ≡ tabulate 3 (jacobian_on corners p.now dndr.now row) }
 {
     [
@@ -109,7 +109,7 @@ fn image_term(an: &[f64], p: &[f64], inode: usize, idim: usize) -> f64
 }
 
 // An axis of the image in a cell of so many corners, from the shape values.
-fn image_entry(corners: u32, an: &[f64], p: &[f64], axis: u32) -> f64
+pub fn image_entry(corners: u32, an: &[f64], p: &[f64], axis: u32) -> f64
     ensures { result ≡ image_on corners an.now p.now axis }
 {
     if corners == 0 {
@@ -182,16 +182,28 @@ pub trait Cell {
         ensures { result ≡ holds pco };
 }
 
+// One Newton step from a place with this image, by the inverse of its Jacobian.
+#[inline(always)]
+pub fn newton_step(
+    pco: [f64; 3],
+    image: [f64; 3],
+    inverse: Result<[f64; 9], Refusal>,
+) -> Result<[f64; 3], Refusal>
+    ensures { answer_told result ≡ step_by pco image (answer_told inverse) }
+{
+    let by = mat3_col_major::mult_vec(inverse?, image);
+    Ok([pco[0] - by[0], pco[1] - by[1], pco[2] - by[2]])
+}
+
 // The next place, unless the determinant is zero.
-fn newton_step<C: Cell>(cell: &C, pco: [f64; 3]) -> Result<[f64; 3], Refusal>
+#[tactic(auto, unfolding(crate::specs::Newton::step_from))]
+fn step<C: Cell>(cell: &C, pco: [f64; 3]) -> Result<[f64; 3], Refusal>
     ensures { answer_told result ≡ step_from pco (C.image_at cell.now pco) (C.jacobian_at cell.now pco) }
 {
     let pos = cell.image(pco);
     let jac = cell.jacobian(pco);
     let jac_col = mat3_col_major::transpose(jac);
-    let inverse = mat3_inverse::try_inverse(jac_col)?;
-    let by = mat3_col_major::mult_vec(inverse, pos);
-    Ok([pco[0] - by[0], pco[1] - by[1], pco[2] - by[2]])
+    newton_step(pco, pos, mat3_inverse::try_inverse(jac_col))
 }
 
 // So many Newton steps, and then the inside test.
@@ -200,7 +212,7 @@ pub fn newton<C: Cell>(cell: &C, steps: usize) -> Located
 {
     let mut pco = C::start();
     for _ in 0..steps {
-        match newton_step(cell, pco) {
+        match step(cell, pco) {
             Ok(next) => pco = next,
             Err(_) => return Located::Flat,
         }
