@@ -53,6 +53,7 @@ impl<'a> Cell for Hexahedron<'a> {
 }
 
 // Twenty steps and the inside test, of corners that are lent, as C lends them; the source has them by value.
+#[tactic(auto, unfolding(crate::specs::Locate::located, crate::specs::Locate::step))]
 pub fn newton(p: &[f64; 24]) -> Located
     ensures { told result ≡ located p.now }
 {

@@ -55,6 +55,7 @@ impl<'a> Cell for Prism<'a> {
 }
 
 // Twenty steps and the inside test, of corners that are lent, as C lends them; the source has them by value.
+#[tactic(auto, unfolding(crate::specs::Locate::located, crate::specs::Locate::step))]
 pub fn newton(p: &[f64; 18]) -> Located
     ensures { told result ≡ located p.now }
 {

@@ -42,8 +42,8 @@ counted_below js zero = zero-le
 counted_below [] (suc k) = zero-le
 counted_below (j ∷ js) (suc k) = omega (arith, counted_below js k, one_or_none (eqb j 0))
 
-pub count_fits : (js : List ℕ) (k : ℕ) → k < 256 → zeros (take k js) + 1 < 2 ^ 32
-count_fits js k small = omega (arith, counted_below js k)
+pub count_fits : (js : List ℕ) (k turns : ℕ) → k ≤ turns → turns ≤ 256 → zeros (take k js) + 1 < 2 ^ 32
+count_fits js k turns few small = omega (arith, counted_below js k)
 
 -- one turn more, for the judgements of a list of records
 module _ {A : Type 0} (f : A → ℕ) (xs : List A) (d : A) (k : ℕ) (inside : k < length xs) where

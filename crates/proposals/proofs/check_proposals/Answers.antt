@@ -10,7 +10,7 @@ use Rattle.proposals.proofs.check_proposals.Goals as goal
 
 pub overflow_add-accepted : goal.overflow_add-accepted
 overflow_add-accepted c =
-    let fits = count_fits (map (judgement c.args.corners) c.args.list.now) c.loop-i.i (omega arith) in
+    let fits = count_fits (map (judgement c.args.corners) c.args.list.now) c.loop-i.i 256 (omega arith) (omega arith) in
     omega (arith, one_at_most (eqb c.judge-number.result 0), c.from-accepted.ensures)
 
 pub loop-i-preserved : goal.loop-i-preserved

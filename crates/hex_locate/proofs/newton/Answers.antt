@@ -1,7 +1,0 @@
--- `hex_locate::newton` meets its contract: the search over a hexahedron, in twenty steps, is the definition's. Assumes nothing.
-use Rattle.hex_locate.specs.Locate.{step, located}
-use Rattle.hex_locate.proofs.newton.Goals as goal
-
-pub returns : goal.returns
-unfolding located step
-returns c = c.newton.ensures
