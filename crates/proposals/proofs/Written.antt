@@ -37,6 +37,10 @@ pub one_at_most : (b : Bool) → bool_byte b ≤ 1
 one_at_most true = le_refl 1
 one_at_most false = zero-le
 
+-- so is what a truth value gives, whichever it is
+pub counts_one : (b : Bool) (more : ℕ) → more ≡ bool_byte b → more ≤ 1
+counts_one b more is = rw is (one_at_most b)
+
 counted_below : (js : List ℕ) (k : ℕ) → zeros (take k js) ≤ k
 counted_below js zero = zero-le
 counted_below [] (suc k) = zero-le

@@ -2,16 +2,15 @@
 -- it is 0; and after the last the numbers and the count are those of the definition. Assumes nothing.
 use native.Mathlib.Omega.{arith}
 use mathlib.Core.List.{map}
-use lib.Dec.{eqb}
 use Rattle.proposals.specs.Judgements.{judgement}
 use Rattle.proposals.proofs.Demand.{one_more_kept}
-use Rattle.proposals.proofs.Written.{count_fits, as_number, one_at_most, one_more_written, one_more_counted}
+use Rattle.proposals.proofs.Written.{count_fits, as_number, counts_one, one_more_written, one_more_counted}
 use Rattle.proposals.proofs.check_proposals.Goals as goal
 
 pub overflow_add-accepted : goal.overflow_add-accepted
 overflow_add-accepted c =
     let fits = count_fits (map (judgement c.args.corners) c.args.list.now) c.loop-i.i 256 (omega arith) (omega arith) in
-    omega (arith, one_at_most (eqb c.judge-number.result 0), c.from-accepted.ensures)
+    omega (arith, counts_one _ _ c.from-accepted.ensures)
 
 pub loop-i-preserved : goal.loop-i-preserved
 loop-i-preserved c =
