@@ -16,6 +16,9 @@ use std::io::Read;
 // What the lent lists hold before a call.
 const OLD: u32 = 7;
 
+// Every place is nearer to zero than this: a path has at most 20 octants.
+const FAR: u32 = 0x40_0000;
+
 // No part has more records.
 const MOST_RECORDS: u32 = 1_000_000;
 
@@ -51,19 +54,22 @@ fn mesh(rt: &impl Print, stored: &Record) {
     say_all(rt, &out[..room.min(8 * count + 1)]);
 }
 
-// Whether a place is the stored one, which the stored format has in two words: 1 where it is below zero, and its size.
+// Whether a place is the stored one, which the stored format has in two words: 1 where it is below zero, and its size. Of a size
+// that no place has nothing is told.
 fn say_axis(rt: &impl Print, place: i32, stored: &Record, i: usize)
     requires { i + 1 < 510 }
 {
     let [below, size]: [u32; 2] = stored.values(i);
-    let size = i64::from(size);
-    let expected = if below == 1 { -size } else { size };
-    let which = if i64::from(place) == expected {
-        "as stored"
-    } else {
-        "another"
-    };
-    let _ = print!(rt; " {which}");
+    if size < FAR {
+        let size = i64::from(size);
+        let expected = if below == 1 { -size } else { size };
+        let which = if i64::from(place) == expected {
+            "as stored"
+        } else {
+            "another"
+        };
+        let _ = print!(rt; " {which}");
+    }
 }
 
 // A path: the corner, the depth, and the octants.

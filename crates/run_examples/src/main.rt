@@ -252,11 +252,18 @@ fn descended(rt: &impl Print) {
     descend(rt, "corner 8:", &[6], 8);
 }
 
-// The next file on standard input: as many bytes as there is room for, or what is left. A read that fails leaves none.
+// The next file on standard input: as many bytes as there is room for, or what is left, or what came before a read that failed. It is no `read_all` of
+// `input`, which answers nothing of what came before.
 fn next<'a>(stdin: &mut impl Read, room: &'a mut [u8]) -> &'a [u8]
     ensures { length result.now ≤ length room.old }
 {
-    let size = input::read_all(stdin, &mut *room).unwrap_or(0);
+    let mut size = 0usize;
+    while size < room.len() {
+        match stdin.read(&mut room[size..]) {
+            Ok(0) | Err(_) => break,
+            Ok(more) => size += more,
+        }
+    }
     &room[..size]
 }
 
@@ -331,19 +338,20 @@ fn again(rt: &impl Print, bytes: &[u8], numbers: usize)
     );
 }
 
+// The next file, with zeros behind it where it is short.
 fn sample_again(rt: &impl Print, stdin: &mut impl Read) {
-    let mut room = [0u8; 237];
-    let bytes = next(&mut *stdin, &mut room);
+    let mut bytes = [0u8; 237];
+    next(&mut *stdin, &mut bytes);
     let _ = print!(rt; "the sample file, ");
-    again(rt, bytes, 8);
+    again(rt, &bytes, 8);
 }
 
-// The next file has the cell 0..7 twice, nodes 2 and 3 exchanged in the second one.
+// The next file has the cell 0..7 twice, nodes 2 and 3 exchanged in the second one. Zeros stand behind it where it is short.
 fn twisted_file(rt: &impl Print, stdin: &mut impl Read) {
-    let mut room = [0u8; 269];
-    let bytes = next(&mut *stdin, &mut room);
-    list(rt, "a file with a twisted face: ", bytes);
-    again(rt, bytes, 16);
+    let mut bytes = [0u8; 269];
+    next(&mut *stdin, &mut bytes);
+    list(rt, "a file with a twisted face: ", &bytes);
+    again(rt, &bytes, 16);
 }
 
 // Writes so many words and numbers, zeros behind the cell 0..6 and `last`, into a buffer; and what the refusal left at the buffer's ends.
