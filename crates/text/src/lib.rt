@@ -1,8 +1,10 @@
-// Text put behind what a vector of fixed capacity holds. Where the whole of it does not fit, the answer is an error, and nothing is written.
+// Text put behind what a vector of fixed capacity holds, or into a lent buffer from a place on. Where the whole of it does not fit, nothing is written:
+// what pushes answers an error, and what puts the place as it was, where it else answers the place behind the text.
 #![tactic(auto)]
 
 ghost use Rattle.std.specs.Prelude.{◌≡◌, ◌+◌, ◌≤◌, ◌++◌, ◌↔◌, length, IsOk, OnOk, OnErr};
 ghost use Rattle.arrayvec.specs.ArrayVec.{array_vec_len};
+ghost use Rattle.buffer.specs.Put.{Puts};
 ghost use Rattle.text.specs.Text.{decimal, signed_decimal, refused_line};
 
 use arrayvec::{ArrayVec, CapacityError};
@@ -47,4 +49,30 @@ pub fn push_refused<const N: usize>(
     push_decimal(&mut line, u64::from(number))?;
     line.try_extend_from_slice(b"\n")?;
     out.try_extend_from_slice(&line)
+}
+
+#[tactic(auto, using(crate::proofs::Digits::same_decimal))]
+pub fn put_decimal(out: &mut [u8], at: usize, x: u64) -> usize
+    ensures { Puts out.old out.new at result (decimal x) }
+{
+    let mut number = Buffer::new();
+    buffer::put_bytes(out, at, number.format(x).as_bytes())
+}
+
+#[tactic(auto, using(crate::proofs::Digits::same_signed))]
+pub fn put_signed(out: &mut [u8], at: usize, x: i64) -> usize
+    ensures { Puts out.old out.new at result (signed_decimal x) }
+{
+    let mut signed_number = Buffer::new();
+    buffer::put_bytes(out, at, signed_number.format(x).as_bytes())
+}
+
+// The line goes into a vector first, which holds the longest.
+#[tactic(auto, using(crate::proofs::Lines::refused_most))]
+pub fn put_refused(out: &mut [u8], at: usize, k: u32) -> usize
+    ensures { Puts out.old out.new at result (refused_line k) }
+{
+    let mut line = ArrayVec::<u8, REFUSED_LINE>::new();
+    let _ = push_refused(&mut line, k);
+    buffer::put_bytes(out, at, &line)
 }
