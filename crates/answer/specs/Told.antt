@@ -1,6 +1,6 @@
 -- What a result is told as: its value, or its refusal's number. Definitions and claims only.
 use Rattle.std.specs.Prelude.{ℕ, Result, Ok, Err}
-use Rattle.answer.specs.Answer.{Answer, answered, refused, LosesNothing}
+use Rattle.answer.specs.Answer.{Answer, answered, refused, number_of, LosesNothing}
 use Rattle.answer.specs.declared.Refusal.{Refusal}
 use Rattle.answer.specs.declared.Refusal.TheVariants.{Flat, Outside, Corner, Tolerance, Coordinate, TooFar, Limit, Length, Range, Twice, Mark, Version, FileLength, Twisted, OffGrid}
 
@@ -29,3 +29,7 @@ told (Err r) = refused (number r)
 -- So a contract that says what is told leaves one possible answer.
 abbrev pub ToldLosesNothing : Type 1
 ToldLosesNothing = (A : Type 0) → LosesNothing (told {A = A})
+
+-- Nor does the number alone of a result without a value: no refusal's number is 0, and each refusal has its own.
+abbrev pub NumberLosesNothing : Type 0
+NumberLosesNothing = LosesNothing (λ (r : Result (Unit {0}) Refusal). number_of (told r))
