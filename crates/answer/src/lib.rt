@@ -42,7 +42,7 @@ pub fn put<T: Drop>(found: Result<T, Refusal>, out: &mut T) -> u32
             *out = value;
             0
         }
-        Err(refusal) => refusal.number(),
+        Err(why) => why.number(),
     }
 }
 
