@@ -1,8 +1,8 @@
 -- `volume_lines::list` meets its contract: what `report` answers and leaves is printed, and there is room for it. Assumes nothing.
 use native.Mathlib.Omega.{arith}
-use mathlib.Core.Path.{◌∙◌}
+use mathlib.Core.Path.{◌∙◌, ap}
 use borrow.Author.Rules.{rules}
-use Rattle.answer.specs.Told.{number}
+use Rattle.text.specs.Text.{refused_line}
 use Rattle.text.proofs.Lines.{refused_most, surely}
 use Rattle.volume_lines.proofs.Report.{found, refusal}
 use Rattle.volume_lines.proofs.list.Goals as goal
@@ -15,5 +15,7 @@ returns-in-Ok c =
 
 pub returns-in-Err : goal.returns-in-Err
 returns-in-Err c =
-    let put = rw (c.clear.ensures, c.number.ensures) at c.push_refused.ensures in
-    surely c.push_refused.result (put.variant.1 (omega (arith, refused_most (number c.in-Err.refusal)))) put.ok ∙ refusal c.args.bytes.now _ c.in-Err.ensures.answer
+    let put = rw c.clear.ensures at c.push_refused.ensures in
+    surely c.push_refused.result (put.variant.1 (omega (arith, refused_most c.number.result))) put.ok
+    ∙ ap refused_line c.number.ensures
+    ∙ refusal c.args.bytes.now _ c.in-Err.ensures.answer
