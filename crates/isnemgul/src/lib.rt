@@ -237,6 +237,7 @@ pub extern "C" fn isn_hex_check(corners: &[f64; 24], at: &[f64; 3], tolerance: f
 }
 
 #[unsafe(no_mangle)]
+#[tactic(auto, using(crate::proofs::Demand::locate_told))]
 pub extern "C" fn isn_hex_locate_checked(
     corners: &[f64; 24],
     tolerance: f64,
