@@ -8,11 +8,11 @@ use mathlib.Core.List.{List, [], ◌∷◌, ◌++◌, map, append-nil, append_as
 use lib.Dec.{leb}
 use lib.ListN.{length, get_or, take, drop, set, length-append, length-set, length-take, take-append-drop}
 use lib.Seq.{take-suc-set, drop-set-lt, drop-drop, take_at, drop_at, length_front, length-take-le}
-use borrow.Author.Tests.{le-leb}
+use borrow.Author.Tests.{le-leb, lt-leb}
 use borrow.Rule.Slice.PartMut.{put_mid}
 use Rattle.numbers.specs.Little.{bytes, all_bytes}
 use Rattle.std.proofs.lemmas.List.{get_or-map, length-map, take_all}
-use Rattle.numbers.proofs.Little.{length_all_bytes, all_bytes_more}
+use Rattle.numbers.proofs.Little.{length_bytes, length_all_bytes, all_bytes_more}
 use Rattle.numbers.proofs.Slots.{row_next}
 use Rattle.buffer.specs.Put.{has_room, put, place_behind, Puts, Wrote, WroteLeavesOne, PutsWrite}
 
@@ -117,6 +117,24 @@ puts_wrote {before} {after} {at} {end} {text} room p =
     let buffer : after ≡ take at before ++ (text ++ drop (at + length text) before) = p.buffer ∙ rw fits in
     let place : end ≡ at + length text = p.place ∙ rw fits in
     rw (buffer, place) (put_wrote before at text room)
+
+puts_left : {before after : List ℕ} {at end : ℕ} {text : List ℕ} → length before < at + length text → Puts before after at end text → after ≡ before
+unfolding put
+puts_left {before} {after} {at} {end} {text} none p =
+    let no : has_room before at text ≡ false = lt-leb (at + length text) (length before) none in
+    p.buffer ∙ rw no
+
+-- the same of a number in w bytes
+module _ {before after : List ℕ} {at end : ℕ} (w x : ℕ) where
+  pub number_written : Puts before after at end (bytes w x) → at + w ≤ length before → Wrote before after at (at + w) (bytes w x)
+  number_written p room =
+      let long = length_bytes w x in
+      let put = puts_wrote (omega (arith, long, room)) p in
+      let place : end ≡ at + w = put.ends ∙ ap (λ (n : ℕ). at + n) long in
+      rw place at put
+
+  pub number_left : Puts before after at end (bytes w x) → length before < at + w → after ≡ before
+  number_left p none = puts_left (omega (arith, length_bytes w x, none)) p
 
 pub puts_write : PutsWrite
 puts_write = record { whole = λ before after at end text. puts_wrote; behind = λ a b c at mid end t u. wrote_then }

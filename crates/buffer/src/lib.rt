@@ -1,10 +1,11 @@
-// Bytes put into a lent buffer, from a place on. Each function answers the place behind what it put. Where the buffer has no room for the whole of it, nothing
-// is written, and the place is answered as it was. The buffer and the place are no struct: C lends the one, and the other is the answer.
+// Whole numbers in lent bytes, the lowest byte first, and other bytes: read, and put into a buffer from a place on. What puts answers the place behind what it
+// put. Where the buffer has no room for the whole of it, nothing is written, and the place is answered as it was. What reads takes a byte that is not there as
+// zero. The buffer and the place are no struct: C lends the one, and the other is the answer.
 #![tactic(auto)]
 
 ghost use Rattle.std.specs.Prelude.{ℕ, ◌≡◌, [], ◌∷◌, ◌+◌, ◌*◌, ◌≤◌, ◌<◌, leb, length, map};
 ghost use Rattle.std.proofs.Common.{rules};
-ghost use Rattle.numbers.specs.Little.{number_at, bytes, all_bytes};
+ghost use Rattle.numbers.specs.Little.{number_at, numbers_at, bytes, all_bytes};
 ghost use Rattle.buffer.specs.Put.{Puts, Wrote};
 
 // A whole number that stands in so many bytes, at most eight, the lowest first. What is said of its value leaves one possible number.
@@ -28,6 +29,22 @@ pub trait Little: Copy {
     ghost most_bytes: { WIDTH ≤ 8 };
 
     ghost one_of_each: { (x y : Self) → value x ≡ value y → x ≡ y };
+
+    // Put as `put` does, where the place behind the number is of no use. Where there is no room for it nothing is written.
+    final fn store(self, out: &mut [u8], at: usize)
+        ensures no_room { length out.old < at + WIDTH → out.new ≡ out.old }
+        ensures written { at + WIDTH ≤ length out.old
+            → Wrote out.old out.new at (at + WIDTH) (bytes WIDTH (value self)) }
+    {
+        put(out, at, self);
+    }
+
+    // The number that stands at `at`. A byte that is not there counts as zero.
+    final fn load(bytes: &[u8], at: usize) -> Self
+        ensures { value result ≡ number_at bytes.now WIDTH at }
+    {
+        Self::of_bytes(eight_at(bytes, at))
+    }
 }
 
 impl Little for u16 {
@@ -116,6 +133,17 @@ fn store<T: Little>(out: &mut [u8], at: usize, x: T)
     out[at..at + T::WIDTH].copy_from_slice(&low[..T::WIDTH]);
 }
 
+// The eight bytes from `at` on, with zeros for those that are not there.
+fn eight_at(bytes: &[u8], at: usize) -> [u8; 8]
+    ensures { (width : ℕ) → width ≤ 8 → number_at result width 0 ≡ number_at bytes.now width at }
+{
+    let from = at.min(bytes.len());
+    let size = (bytes.len() - from).min(8);
+    let mut low = [0u8; 8];
+    low[..size].copy_from_slice(&bytes[from..from + size]);
+    low
+}
+
 // The numbers of a list, one behind another.
 fn store_all<T: Little>(out: &mut [u8], at: usize, list: &[T])
     requires { at + T.WIDTH * length list.now ≤ length out.old }
@@ -172,4 +200,46 @@ pub fn put_bytes(out: &mut [u8], at: usize, text: &[u8]) -> usize
     let end = at + text.len();
     out[at..end].copy_from_slice(text);
     end
+}
+
+// The numbers that stand one behind another from a place on, as many as `out` is long. A byte that is not there counts as zero.
+pub fn load_all<T: Little>(bytes: &[u8], at: usize, out: &mut [T])
+    ensures { map T.value out.new ≡ numbers_at bytes.now T.WIDTH at (length out.old) }
+{
+    // By index: of a list that an iterator writes a proof knows the length alone. No byte stands at a place that is too great for a number.
+    for i in 0..out.len() {
+        out[i] = T::load(bytes, at.saturating_add(T::WIDTH.saturating_mul(i)));
+    }
+}
+
+#[cfg(test)]
+mod tests {
+    use super::*;
+
+    #[test]
+    fn a_number_is_stored_where_it_fits(rt: HostRuntime) {
+        let mut out = [9; 7];
+        0x1234u16.store(&mut out, 1);
+        assert_eq!(rt; out, [9, 0x34, 0x12, 9, 9, 9, 9]);
+        7u32.store(&mut out, 4);
+        7u64.store(&mut out, usize::MAX);
+        assert_eq!(rt; out, [9, 0x34, 0x12, 9, 9, 9, 9]);
+        0x8765_4321u32.store(&mut out, 3);
+        assert_eq!(rt; out, [9, 0x34, 0x12, 0x21, 0x43, 0x65, 0x87]);
+    }
+
+    #[test]
+    fn a_byte_that_is_not_there_is_zero(rt: HostRuntime) {
+        let bytes = [1, 2, 3, 4, 5];
+        assert_eq!(rt; u16::load(&bytes, 3), 0x0504);
+        assert_eq!(rt; u32::load(&bytes, 3), 0x0504);
+        assert_eq!(rt; u64::load(&bytes, 0), 0x05_0403_0201);
+        assert_eq!(rt; u64::load(&bytes, 5), 0);
+        assert_eq!(rt; u16::load(&bytes, usize::MAX), 0);
+        let mut list = [9u16; 3];
+        load_all(&bytes, 1, &mut list);
+        assert_eq!(rt; list, [0x0302, 0x0504, 0]);
+        load_all(&bytes, usize::MAX - 1, &mut list);
+        assert_eq!(rt; list, [0; 3]);
+    }
 }

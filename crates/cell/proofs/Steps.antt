@@ -7,12 +7,22 @@ use mathlib.Core.List.{List}
 use lib.Ieee.{Float}
 use Rattle.answer.specs.Answer.{Answer, answered, refused, and_then, after}
 use Rattle.answer.proofs.Steps.{one_more, stays}
-use Rattle.mat3_col_major.specs.Mat3.{transposed, det}
+use Rattle.mat3_col_major.specs.Mat3.{transposed, product, det}
 use Rattle.mat3_inverse.specs.Inverse.{inverse}
-use Rattle.cell.specs.Newton.{step_from, verdict, newton, ToldLosesNothing}
+use Rattle.cell.specs.Newton.{less_by, step_by, step_from, verdict, newton, ToldLosesNothing}
 use Rattle.cell.specs.declared.Located.TheVariants.{Inside, Flat, Outside}
 use Rattle.answer.proofs.Answers.{never, answered_same}
 use Rattle.binary64.specs.Binary64.{is_zero}
+
+-- one step, where there is an inverse and where there is none
+module _ (q image jacobian : List Float) {column : List Float} (by_columns : column ≡ transposed jacobian) where
+  pub step_refused : {n : ℕ} → refused n ≡ inverse column → refused n ≡ step_from q image jacobian
+  unfolding step_from
+  step_refused none = ap (step_by q image) (none ∙ ap inverse by_columns)
+
+  pub step_taken : {m to : List Float} → answered m ≡ inverse column → to ≡ less_by q (product m image) → answered to ≡ step_from q image jacobian
+  unfolding step_from
+  step_taken found less = ap answered less ∙ ap (step_by q image) (found ∙ ap inverse by_columns)
 
 -- no step is refused by another number than 1
 by_one : (b : Bool) (v : List Float) {n : ℕ} → ◌≡◌ {A = Answer (List Float)} (refused n) (cond b (refused 1) (answered v)) → n ≡ 1

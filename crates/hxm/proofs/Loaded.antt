@@ -2,12 +2,12 @@
 use Prim.Native.Nat.{ℕ, ◌+◌, ◌*◌, ◌≤◌}
 use native.Mathlib.Omega.{arith}
 use mathlib.Core.Path.{◌≡◌, ◌∙◌, ap}
-use mathlib.Core.List.{List, [], ◌++◌, map, append-nil}
+use mathlib.Core.List.{List, ◌++◌, map}
 use lib.ListN.{length, take, drop, length-drop}
 use lib.Seq.{take_at, length-take-le}
 use Rattle.numbers.specs.Little.{little, number_at, numbers_at}
-use Rattle.std.proofs.lemmas.List.{drop_all, length-map}
-use Rattle.numbers.proofs.Stored.{Stores, stores_all}
+use Rattle.numbers.proofs.Stored.{Stores}
+use Rattle.buffer.proofs.Numbers as Numbers
 
 -- a number whose bytes are copied, whatever stands behind the copy
 pub number_copied : (s copy rest : List ℕ) (w at : ℕ) → at + w ≤ length s → copy ≡ take w (drop at s) → number_at (copy ++ rest) w 0 ≡ number_at s w at
@@ -20,6 +20,4 @@ number_copied s copy rest w at fits e =
 pub all_loaded : {X : Type 0} (value : X → ℕ) (old out : List X) (s : List ℕ) (w at : ℕ) {i : ℕ}
     → Stores (λ (k : ℕ). number_at s w (at + w * k)) (length old) (map value old) (map value out) i → length old ≤ i
     → map value out ≡ numbers_at s w at (length old)
-all_loaded value old out s w at held last =
-    let none : drop (length old) (map value old) ≡ [] = drop_all (length old) (map value old) (rw length-map (omega arith)) in
-    stores_all held last ∙ ap (λ (l : List ℕ). numbers_at s w at (length old) ++ l) none ∙ append-nil (numbers_at s w at (length old))
+all_loaded = Numbers.all_loaded

@@ -61,7 +61,7 @@ fn load<T: Little>(bytes: &[u8], at: usize) -> T
     T::of_bytes(low)
 }
 
-// The numbers that stand one behind another from `at` on, as many as `out` is long.
+// The numbers that stand one behind another from `at` on, as many as `out` is long. buffer's looks at each place; here the whole file has been looked at.
 fn load_all<T: Little>(bytes: &[u8], at: usize, out: &mut [T])
     requires { at + T.WIDTH * length out.old ≤ length bytes.now }
     ensures { map T.value out.new ≡ numbers_at bytes.now T.WIDTH at (length out.old) }
